@@ -1,0 +1,3 @@
+// The writers' queue: its interface and the queues that keep it.
+pub mod interface;
+pub mod refusal;
