@@ -1,0 +1,5 @@
+pub mod Refusals
+pub mod Operations
+pub mod Calls
+pub mod Cells
+pub mod Copies

@@ -1,0 +1,10 @@
+// Memories of seven cells: their interface, the plain memory Words, and the
+// cache layer, which stands on any memory and is a memory again.
+pub mod cache;
+pub mod cells;
+pub mod copies;
+pub mod interface;
+pub mod operation;
+pub mod refusal;
+pub mod sets;
+pub mod words;
