@@ -1,3 +1,5 @@
 pub mod Numbers
 pub mod Found
 pub mod Lines
+pub mod Rights
+pub mod Deeds

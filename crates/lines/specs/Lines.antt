@@ -85,6 +85,19 @@ deed-of L28p2 t r = Touch (Write U 0)
 deed-of L29p2 t r = Touch (Add C Down)
 deed-of L32p1 t r = Quit
 
+-- the deed of the next line of a task
+abbrev pub deed-at : Place → ℕ → Track → Deed
+deed-at Rest t r = Nothing
+deed-at Inside t r = Nothing
+deed-at (Next l) t r = deed-of l t r
+
+abbrev pub next-deed : ℕ → Track → Deed
+next-deed t r = deed-at (r .place) t r
+
+-- a task at rest, with all its numbers 0
+abbrev pub at-rest : Role → Track
+at-rest o = record { role = o; place = Rest; standing = Normal; prev = 0; curr = 0; d = 0; x = 0 }
+
 -- the track with another register
 
 abbrev pub with-prev : Track → ℕ → Track
@@ -98,8 +111,6 @@ with-d r n = record { role = r .role; place = r .place; standing = r .standing; 
 
 abbrev pub with-x : Track → ℕ → Track
 with-x r n = record { role = r .role; place = r .place; standing = r .standing; prev = r .prev; curr = r .curr; d = r .d; x = n }
-
--- the track at another place
 
 -- the next line is l
 abbrev pub goes : Track → Line → Track

@@ -17,6 +17,13 @@ pub enum Standing {
     Downgraded,
 }
 
+// What a task inside may do with the table.
+#[derive(Clone, Copy, PartialEq, Eq, Debug)]
+pub enum Right {
+    Reading,
+    Writing,
+}
+
 // A line by its published number, p for the point: L16p1 is line 16.1. Lines 28.1
 // and 28.2 have two forms, since an upgraded task does them to downgrade (Down28p1,
 // Down28p2) and to leave (L28p1, L28p2). The value is ten times the number, and

@@ -2,11 +2,13 @@
 ghost use mathlib.Core.Path.{_≡_};
 ghost use Prim.Native.Nat.{_≤_, _<_};
 ghost use Rattle.lines.specs.Numbers.{tenfold};
-ghost use Rattle.lines.specs.Lines.{comes-in, deed-of, ends, rests, settle, stepped};
+ghost use Rattle.lines.specs.Rights.{right-of};
+ghost use Rattle.lines.specs.Lines.{at-rest, comes-in, ends, next-deed, rests, settle, stepped};
 use crate::deed::Deed;
 use crate::deed::Found;
 use crate::place::Line;
 use crate::place::Place;
+use crate::place::Right;
 use crate::place::Role;
 use crate::place::Standing;
 use memory::cells::C;
@@ -36,10 +38,40 @@ pub struct Track {
 }
 
 impl Track {
-    // The one deed of a line, for the task with this number.
-    pub fn deed(&self, line: Line, task: u32) -> Deed
-        ensures { λ r. ⌜ r ≡ deed-of line task (now (self .entry)) ⌝ }
+    // A task of this role at rest, with all its numbers 0.
+    pub fn new(role: Role) -> Track
+        ensures { λ r. ⌜ r ≡ at-rest role ⌝ }
     {
+        Track {
+            role,
+            place: Place::Rest,
+            standing: Standing::Normal,
+            prev: 0,
+            curr: 0,
+            d: 0,
+            x: 0,
+        }
+    }
+
+    // The right that the task has, which it has only inside.
+    pub fn right(&self) -> Option<Right>
+        ensures { λ r. ⌜ r ≡ right-of (now (self .entry)) ⌝ }
+    {
+        match (self.place, self.role, self.standing) {
+            (Place::Inside, Role::Writer, Standing::Normal) => Some(Right::Writing),
+            (Place::Inside, _, Standing::Upgraded) => Some(Right::Writing),
+            (Place::Inside, _, _) => Some(Right::Reading),
+            _ => None,
+        }
+    }
+
+    // The one deed of the next line, for the task with this number.
+    pub fn deed(&self, task: u32) -> Deed
+        ensures { λ r. ⌜ r ≡ next-deed task (now (self .entry)) ⌝ }
+    {
+        let Place::Next(line) = self.place else {
+            return Deed::Nothing;
+        };
         match line {
             Line::L0p1 => Deed::Join,
             Line::L0p2 => Deed::First,
