@@ -1,0 +1,7 @@
+pub mod Refusals
+pub mod Accounts
+pub mod Records
+pub mod States
+pub mod Questions
+pub mod Steps
+pub mod Opening
