@@ -1,0 +1,35 @@
+-- The lock as its calls see it.
+use mathlib.Core.Path.{_≡_}
+use mathlib.Core.List.{List}
+use Prim.Native.Nat.{ℕ, _-_}
+use lib.ListN.{take, getD}
+use denote.Ref.{now, name}
+use Rattle.memory.specs.declared.interface.Memory.{Ghosts as MemoryGhosts}
+use Rattle.queue.specs.declared.interface.Queue.{Ghosts as QueueGhosts}
+use Rattle.lines.specs.declared.place.Role.the-variants.{Reader}
+use Rattle.calls.specs.declared.record.Record.{Record}
+use Rattle.calls.specs.Records.{fresh}
+use Rattle.calls.specs.States.{State}
+use Rattle.calls.specs.Steps.{Call, Answer, Verdict, Carried, judge}
+use Rattle.lock.specs.declared.records.Records.{Records}
+use Rattle.lock.specs.declared.locks.Lock.{Lock}
+
+-- the records of the tasks
+abbrev pub records-of : Records → List Record
+records-of rs = take (rs .count) (rs .all)
+
+abbrev pub record-at : List Record → ℕ → Record
+record-at rs t = getD rs (t - 1) (fresh Reader)
+
+module _ {M Q : Type 0} (mem : MemoryGhosts M) (que : QueueGhosts Q) where
+  -- the state of a lock over this memory and this queue
+  abbrev pub view : Lock M Q → State
+  view l = record { number = l .number; opened = l .opened; cells = mem .cells (l .memory); waiting = que .waiting (l .queue); records = records-of (l .records); table = now (l .table) }
+
+  -- the verdict, carried out on the lock l, gives the answer and leaves the lock so, with the table that was lent
+  abbrev pub Carries-out : Verdict → Lock M Q → Answer → Lock M Q → Type 0
+  Carries-out v l a l′ = Carried (mem .does) (mem .limit) v (view l) (l .memory) a (view l′) (l′ .memory) × (name (l′ .table) ≡ name (l .table))
+
+  -- the call does
+  abbrev pub Does : Call → Lock M Q → Answer → Lock M Q → Type 0
+  Does c l a l′ = Carries-out (judge c (view l)) l a l′

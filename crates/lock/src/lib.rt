@@ -1,0 +1,7 @@
+// The lock over any memory and any queue: its tasks' records and the calls.
+mod access;
+pub mod calling;
+mod deeds;
+pub mod locks;
+pub mod records;
+mod settling;
