@@ -3,5 +3,6 @@ mod access;
 pub mod calling;
 mod deeds;
 pub mod locks;
+pub mod opening;
 pub mod records;
 mod settling;
