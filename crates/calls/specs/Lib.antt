@@ -5,3 +5,4 @@ pub mod States
 pub mod Questions
 pub mod Steps
 pub mod Opening
+pub mod Told

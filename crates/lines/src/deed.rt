@@ -2,9 +2,11 @@
 ghost use mathlib.Core.Path.{_≡_};
 ghost use Rattle.lines.specs.Found.{number-found, is-number, is-above-one};
 use memory::operation::Operation;
+use memory::operation::OperationDebug;
+use memory::operation::OperationPartialEq;
 
 // The one deed of a line: an operation on a cell, one on the queue, or nothing outside the task.
-#[derive(Clone, Copy)]
+#[derive(Clone, Copy, PartialEq, Eq, Debug)]
 pub enum Deed {
     Touch(Operation),
     Join,
@@ -14,7 +16,7 @@ pub enum Deed {
 }
 
 // What a deed finds: a cell's number, the answer to a question, or nothing.
-#[derive(Clone, Copy)]
+#[derive(Clone, Copy, PartialEq, Eq, Debug)]
 pub enum Found {
     Nothing,
     Number(u32),

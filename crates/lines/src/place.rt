@@ -28,7 +28,7 @@ pub enum Right {
 // and 28.2 have two forms, since an upgraded task does them to downgrade (Down28p1,
 // Down28p2) and to leave (L28p1, L28p2). The value is ten times the number, and
 // 1000 more in the form that downgrades.
-#[derive(Clone, Copy)]
+#[derive(Clone, Copy, PartialEq, Eq, Debug)]
 pub enum Line {
     L0p1 = 1,
     L0p2 = 2,
@@ -83,7 +83,7 @@ impl Line {
     }
 }
 
-#[derive(Clone, Copy)]
+#[derive(Clone, Copy, PartialEq, Eq, Debug)]
 pub enum Place {
     Rest,
     Inside,

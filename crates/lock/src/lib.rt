@@ -4,5 +4,6 @@ pub mod calling;
 mod deeds;
 pub mod locks;
 pub mod opening;
+pub mod questions;
 pub mod records;
 mod settling;
