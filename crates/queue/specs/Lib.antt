@@ -1,3 +1,4 @@
 pub mod Refusals
 pub mod Waiting
 pub mod Calls
+pub mod Round
