@@ -1,0 +1,4 @@
+pub mod Answers
+pub mod Listing
+pub mod Drafts
+pub mod Written

@@ -1,0 +1,4 @@
+// Running a schedule.
+pub mod desk;
+pub mod refusal;
+pub mod schedule;
