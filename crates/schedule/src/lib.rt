@@ -1,4 +1,3 @@
 // Running a schedule.
-pub mod desk;
+mod answers;
 pub mod refusal;
-pub mod schedule;
