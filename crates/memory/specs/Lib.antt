@@ -3,3 +3,4 @@ pub mod Operations
 pub mod Calls
 pub mod Cells
 pub mod Copies
+pub mod Layers
