@@ -1,3 +1,5 @@
 pub mod Refusals
 pub mod Answers
 pub mod Desks
+pub mod Replies
+pub mod Listing

@@ -3,4 +3,7 @@
 mod answers;
 pub mod desk;
 pub mod desking;
+mod obeying;
 pub mod refusal;
+pub mod running;
+pub mod schedule;
