@@ -88,3 +88,7 @@ module _ {W R : Type 0} (mem : MemoryGhosts W) (que : QueueGhosts R) where
   abbrev pub Gives : Schedule W R → List ℕ → Result (Option ℕ) Refusal → Schedule W R → List ℕ → Type 0
   Gives s d (Ok given) t o = (65552 ≤ length d) × Gives-line (s .long) s d given t o
   Gives s d (Err e) t o = (length d < 65552) × (e ≡ Line Room) × (t ≡ s) × (o ≡ d)
+
+-- how many lines of the listing are still to be asked for, blank ones among them
+abbrev pub to-do : {W R : Type 0} → Schedule W R → ℕ
+to-do s = length (left s) + cond (s .long) 1 0

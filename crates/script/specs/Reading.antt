@@ -1,13 +1,23 @@
--- The lines that stand from a place on, and those that a reader has still to hand out.
+-- Reading an input line by line: the lines from a place on, and those that a reader has still to hand out.
 use mathlib.Core.Path.{_≡_}
+use mathlib.Core.Bool.{cond}
 use mathlib.Core.List.{List, [], _∷_}
 use Prim.Native.Nat.{ℕ, _+_, _≤_, _<_}
 use denote.Ref.{now, RefT}
+use lib.Dec.{leb}
 use lib.ListN.{length, drop}
 use Rattle.std.specs.declared.option.Option.{Option}
 use Rattle.std.specs.declared.option.Option.the-variants.{Some, None}
+use Rattle.std.specs.declared.result.Result.{Result}
+use Rattle.std.specs.declared.result.Result.the-variants.{Ok, Err}
 use Rattle.script.specs.declared.reader.Reader.{Reader}
+use Rattle.script.specs.declared.refusal.Refusal.{Refusal}
+use Rattle.script.specs.declared.refusal.Refusal.the-variants as why
 use Rattle.script.specs.Cuts.{lines}
+
+-- an input has at most 65,536 bytes
+abbrev pub fitting : List ℕ → Result (Unit {0}) Refusal
+fitting s = cond (leb (length s) 65536) (Ok tt) (Err why.Length)
 
 -- the line l of s begins at the place `at`, and the next one at `next`
 pub record Begins (s : List ℕ) (at : ℕ) (l : List ℕ) (next : ℕ) : Type 0 where

@@ -1,20 +1,15 @@
 // Reading a schedule line by line. A line ends in byte 10, which the last one
 // may lack; it is handed out as a part of the input, without that byte.
 ghost use mathlib.Core.Path.{_≡_};
-ghost use mathlib.Core.Bool.{cond};
-ghost use lib.Dec.{leb};
-ghost use lib.ListN.{length};
-ghost use Rattle.std.specs.declared.result.Result.the-variants.{Ok, Err};
 ghost use Rattle.script.specs.Cuts.{lines as parted};
-ghost use Rattle.script.specs.Reading.{to-come, Handed};
-ghost use Rattle.script.specs.declared.refusal.Refusal.the-variants.{Length as too-long};
+ghost use Rattle.script.specs.Reading.{fitting, to-come, Handed};
 use crate::reader::Reader;
 use crate::refusal::Refusal;
 use crate::text::line_at;
 
-// A schedule has at most 65,536 bytes.
+// Asks of the whole input whether it has at most 65,536 bytes. Refused: 43.
 pub fn fits(input: &[u8]) -> Result<(), Refusal>
-    ensures { λ r. ⌜ r ≡ cond (leb (length (now (input .entry))) 65536) (Ok tt) (Err too-long) ⌝ }
+    ensures { λ r. ⌜ r ≡ fitting (now (input .entry)) ⌝ }
 {
     if input.len() > 65536 {
         return Err(Refusal::Length);

@@ -1,4 +1,5 @@
-// Where a line or a field ends: at the first mark among some bytes.
+// Where a line or a field ends: at the first mark among some bytes. The last line
+// may end with the input, and then the place after it is the end of the input.
 ghost use mathlib.Core.Path.{_≡_};
 ghost use Prim.Native.Nat.{_≤_};
 ghost use lib.ListN.{length};

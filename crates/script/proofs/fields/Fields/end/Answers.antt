@@ -1,5 +1,4 @@
 use borrow.Author.Needs.{needs}
-use denote.Ref.{now}
 use Rattle.script.proofs.Pieces.{some-field}
 use Rattle.script.proofs.fields.Fields.end.Needs as need
 
