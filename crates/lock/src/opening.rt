@@ -133,14 +133,3 @@ impl<'a, M: Memory, Q: Queue> Lock<'a, M, Q> {
         Ok(())
     }
 }
-
-impl<'a, M: Memory + Drop, Q: Queue + Drop> Lock<'a, M, Q> {
-    // The lock is given up, and its table comes back.
-    pub fn into_table(self) -> &'a mut [u32]
-        ensures rows { λ r. ⌜ now r ≡ now (self .entry .table) ⌝ }
-        ensures lent { λ r. ⌜ name r ≡ name (self .entry .table) ⌝ }
-    {
-        let table = self.table;
-        table
-    }
-}
