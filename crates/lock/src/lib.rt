@@ -7,3 +7,5 @@ pub mod opening;
 pub mod questions;
 pub mod records;
 mod settling;
+#[cfg(test)]
+mod tests;

@@ -7,3 +7,5 @@ mod obeying;
 pub mod refusal;
 pub mod running;
 pub mod schedule;
+#[cfg(test)]
+mod tests;

@@ -2,8 +2,12 @@
 ghost use mathlib.Core.Path.{_≡_};
 ghost use Rattle.schedule.specs.declared.refusal.Refusal.the-variants.{Line as by-line, Lock as by-lock};
 ghost use Rattle.schedule.specs.Refusals.{refusal-number};
+use calls::refusal::RefusalDebug as LockRefusalDebug;
+use calls::refusal::RefusalPartialEq as LockRefusalPartialEq;
+use script::refusal::RefusalDebug as LineRefusalDebug;
+use script::refusal::RefusalPartialEq as LineRefusalPartialEq;
 
-#[derive(Clone, Copy)]
+#[derive(Clone, Copy, PartialEq, Debug)]
 pub enum Refusal {
     Line(script::refusal::Refusal),
     Lock(calls::refusal::Refusal),
