@@ -1,6 +1,8 @@
 // A drill that every queue has to pass, and the numbers of the refusals. The drill
 // is generic, so that each queue is asked the same and has to answer the same.
 use crate::interface::Queue;
+use crate::masks::Masks;
+use crate::masks::MasksQueue;
 use crate::refusal::Refusal;
 use crate::refusal::RefusalDebug;
 use crate::refusal::RefusalPartialEq;
@@ -61,6 +63,11 @@ fn drill<Q: Queue>(queue: &mut Q) -> Result<(), Fail> {
 #[test]
 fn ring_keeps_the_order() -> Result<(), Fail> {
     drill(&mut Ring::new())
+}
+
+#[test]
+fn masks_keep_the_order() -> Result<(), Fail> {
+    drill(&mut Masks::new())
 }
 
 #[test]
