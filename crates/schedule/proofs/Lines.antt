@@ -27,15 +27,15 @@ within-more (Ok (Note text)) m n h w = omega arith
 within-more (Ok (Answered a)) m n h w = tt
 within-more (Err e) m n h w = tt
 
-module _ {W R : Type 0} (mem : MemoryGhosts W) (que : QueueGhosts R) (s t : Schedule W R) (d o : List ℕ) (none-long : s .long ≡ false) where
-  pub ended : Ended mem que s t → o ≡ d → Gives-line mem que (s .long) s d None t o
-  ended e same = subst (λ b. Gives-line mem que b s d None t o) (sym none-long) (e, same)
+module _ {W P R K : Type 0} (w : MemoryGhosts W) (p : MemoryGhosts P) (r : QueueGhosts R) (k : QueueGhosts K) (s t : Schedule W P R K) (d o : List ℕ) (none-long : s .long ≡ false) where
+  pub ended : Ended w p r k s t → o ≡ d → Gives-line w p r k (s .long) s d None t o
+  ended e same = subst (λ b. Gives-line w p r k b s d None t o) (sym none-long) (e, same)
 
   -- the bytes of the line, whose number is n, fit, so they were written
   pub did-line : (text : List ℕ) (reply : Result Heard Refusal) (given : Option ℕ) (n : ℕ) → left s ≡ text ∷ left t → t .reader .number ≡ s .reader .number + 1 → n ≡ t .reader .number → t .long ≡ false →
-      Obeyed (Desk-tells mem que) (s .desk) (parse text) reply (t .desk) → Put d (reply-bytes n reply) given o → length (reply-bytes n reply) ≤ length d →
-      Gives-line mem que (s .long) s d given t o
+      Obeyed (Desk-tells w p r k) (s .desk) (parse text) reply (t .desk) → Put d (reply-bytes n reply) given o → length (reply-bytes n reply) ≤ length d →
+      Gives-line w p r k (s .long) s d given t o
   did-line text reply None n next number is long obeyed put room = absurd (omega (arith, put .0))
   did-line text reply (Some count) n next number is long obeyed put room =
-      subst (λ b. Gives-line mem que b s d (Some count) t o) (sym none-long)
+      subst (λ b. Gives-line w p r k b s d (Some count) t o) (sym none-long)
       (record { text = text; reply = reply; next = next; number = number; long = long; obeyed = obeyed; bytes = subst (λ k. Took-bytes d (reply-bytes k reply) count o) is put })

@@ -23,11 +23,11 @@ pub(crate) enum Reply<'t> {
 }
 
 // Does what the line says. A refusal of any layer goes up unchanged.
-pub(crate) fn obey<'t, W: Memory, R: Queue>(
-    desk: &mut Desk<'_, '_, W, R>,
+pub(crate) fn obey<'t, W: Memory, P: Memory, R: Queue, K: Queue>(
+    desk: &mut Desk<'_, '_, W, P, R, K>,
     text: &'t [u8],
 ) -> Result<Reply<'t>, Refusal>
-    ensures does { λ r. ⌜ Obeyed (Desk-tells W·Memory R·Queue) (now (desk .entry)) (parsed (now (text .entry))) (heard r) (now (desk .exit)) ⌝ }
+    ensures does { λ r. ⌜ Obeyed (Desk-tells W·Memory P·Memory R·Queue K·Queue) (now (desk .entry)) (parsed (now (text .entry))) (heard r) (now (desk .exit)) ⌝ }
     ensures part { λ r. ⌜ Within r (length (now (text .entry))) ⌝ }
 {
     match parse_line(text)? {

@@ -44,9 +44,9 @@ fn put_reply(out: &mut [u8], number: u32, reply: Result<Reply<'_>, Refusal>) -> 
     }
 }
 
-impl<'s, 'b, 'a, W: Memory, R: Queue> Schedule<'s, 'b, 'a, W, R> {
+impl<'s, 'b, 'a, W: Memory, P: Memory, R: Queue, K: Queue> Schedule<'s, 'b, 'a, W, P, R, K> {
     // The schedule with this text, its calls made at this desk.
-    pub fn new(input: &'s [u8], desk: Desk<'b, 'a, W, R>) -> Schedule<'s, 'b, 'a, W, R>
+    pub fn new(input: &'s [u8], desk: Desk<'b, 'a, W, P, R, K>) -> Schedule<'s, 'b, 'a, W, P, R, K>
         ensures { λ r. ⌜ Begun (now (input .entry)) (desk .entry) r ⌝ }
     {
         match fits(input) {
@@ -66,7 +66,7 @@ impl<'s, 'b, 'a, W: Memory, R: Queue> Schedule<'s, 'b, 'a, W, R> {
     // Does the next line, and tells how many bytes of `out` are now its line of the listing; nothing
     // at the end. An input that is too long gives one line, which tells 43. Refused: 39.
     pub fn line_bytes(&mut self, out: &mut [u8]) -> Result<Option<usize>, Refusal>
-        ensures { λ r. ⌜ Gives W·Memory R·Queue (now (self .entry)) (now (out .entry)) r (now (self .exit)) (now (out .exit)) ⌝ }
+        ensures { λ r. ⌜ Gives W·Memory P·Memory R·Queue K·Queue (now (self .entry)) (now (out .entry)) r (now (self .exit)) (now (out .exit)) ⌝ }
     {
         if out.len() < ROOM {
             return Err(Refusal::Line(script::refusal::Refusal::Room));

@@ -7,9 +7,9 @@ use script::reader::Reader;
 
 // Of an input that is too long no line is read, and one line of the listing says so.
 #[derive(Drop)]
-pub struct Schedule<'s, 'b, 'a, W, R> {
+pub struct Schedule<'s, 'b, 'a, W, P, R, K> {
     pub(crate) reader: Reader<'s>,
     pub(crate) long: bool,
-    pub(crate) desk: Desk<'b, 'a, W, R>,
+    pub(crate) desk: Desk<'b, 'a, W, P, R, K>,
     ghost short: { length (pointee (reader .input)) ≤ 65536 },
 }

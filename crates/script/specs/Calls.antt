@@ -8,9 +8,9 @@ use lib.ListN.{length, getD, drop}
 use Rattle.std.specs.declared.result.Result.{Result}
 use Rattle.std.specs.declared.result.Result.the-variants.{Ok, Err}
 use Rattle.script.specs.declared.call.MemoryKind.{MemoryKind}
-use Rattle.script.specs.declared.call.MemoryKind.the-variants.{Words}
+use Rattle.script.specs.declared.call.MemoryKind.the-variants.{Words, Packed}
 use Rattle.script.specs.declared.call.QueueKind.{QueueKind}
-use Rattle.script.specs.declared.call.QueueKind.the-variants.{Ring}
+use Rattle.script.specs.declared.call.QueueKind.the-variants.{Ring, Masks}
 use Rattle.script.specs.declared.call.Call.{Call}
 use Rattle.script.specs.declared.call.Call.the-variants as calls
 use Rattle.script.specs.declared.call.Line.{Line}
@@ -35,16 +35,16 @@ abbrev pub over : {X Y : Type 0} → (X → Y) → Result X Refusal → Result Y
 over f (Ok x) = Ok (f x)
 over f (Err e) = Err e
 
--- the field says w
+-- the field says w or p
 abbrev pub memory-kind : List ℕ → Result MemoryKind Refusal
 memory-kind [] = Err why.Fields
-memory-kind (c ∷ []) = cond (eqb c 119) (Ok Words) (Err why.Fields)
+memory-kind (c ∷ []) = cond (eqb c 119) (Ok Words) (cond (eqb c 112) (Ok Packed) (Err why.Fields))
 memory-kind (c ∷ d ∷ ds) = Err why.Fields
 
--- the field says r
+-- the field says r or m
 abbrev pub queue-kind : List ℕ → Result QueueKind Refusal
 queue-kind [] = Err why.Fields
-queue-kind (c ∷ []) = cond (eqb c 114) (Ok Ring) (Err why.Fields)
+queue-kind (c ∷ []) = cond (eqb c 114) (Ok Ring) (cond (eqb c 109) (Ok Masks) (Err why.Fields))
 queue-kind (c ∷ d ∷ ds) = Err why.Fields
 
 abbrev pub opens : Result MemoryKind Refusal → Result QueueKind Refusal → List ℕ → Result Ask Refusal

@@ -3,11 +3,13 @@
 #[derive(Clone, Copy, PartialEq, Eq, Debug)]
 pub enum MemoryKind {
     Words,
+    Packed,
 }
 
 #[derive(Clone, Copy, PartialEq, Eq, Debug)]
 pub enum QueueKind {
     Ring,
+    Masks,
 }
 
 #[derive(Clone, Copy, PartialEq, Eq, Debug)]

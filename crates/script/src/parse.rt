@@ -17,6 +17,7 @@ fn memory_of(field: &[u8]) -> Result<MemoryKind, Refusal>
 {
     match field {
         [b'w'] => Ok(MemoryKind::Words),
+        [b'p'] => Ok(MemoryKind::Packed),
         _ => Err(Refusal::Fields),
     }
 }
@@ -26,6 +27,7 @@ fn queue_of(field: &[u8]) -> Result<QueueKind, Refusal>
 {
     match field {
         [b'r'] => Ok(QueueKind::Ring),
+        [b'm'] => Ok(QueueKind::Masks),
         _ => Err(Refusal::Fields),
     }
 }
