@@ -7,4 +7,6 @@ pub mod interface;
 pub mod operation;
 pub mod refusal;
 pub mod sets;
+#[cfg(test)]
+mod tests;
 pub mod words;
