@@ -1,3 +1,4 @@
 pub mod Bounds
+pub mod Fields
 pub mod Held
 pub mod Masks

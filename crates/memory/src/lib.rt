@@ -1,10 +1,11 @@
-// Memories of seven cells: their interface, the plain memory Words, and the
-// cache layer, which stands on any memory and is a memory again.
+// Memories of seven cells: their interface, the memories Words and Packed, and
+// the cache layer, which stands on any memory and is a memory again.
 pub mod cache;
 pub mod cells;
 pub mod copies;
 pub mod interface;
 pub mod operation;
+pub mod packed;
 pub mod refusal;
 pub mod sets;
 #[cfg(test)]

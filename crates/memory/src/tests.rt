@@ -9,6 +9,8 @@ use crate::operation::Reply;
 use crate::operation::ReplyDebug;
 use crate::operation::ReplyPartialEq;
 use crate::operation::Step;
+use crate::packed::Packed;
+use crate::packed::PackedMemory;
 use crate::refusal::Refusal;
 use crate::refusal::RefusalDebug;
 use crate::refusal::RefusalPartialEq;
@@ -116,6 +118,53 @@ fn words_refuses() -> Result<(), Fail> {
     )
 }
 
+// The other six keep their numbers under a write, an add and a swap.
+#[test]
+fn packed_keeps_the_other_fields() -> Result<(), Fail> {
+    let mut memory = Cache::new(Packed::new());
+    for cell in 0..7 {
+        memory.write(1, cell, 15)?;
+    }
+    memory.write(1, 0, 0)?;
+    check_eq(
+        memory.add(64, 3, Step::Down)?,
+        Reply {
+            value: 15,
+            share: 1,
+        },
+    )?;
+    check_eq(memory.swap(2, 6, 15, 9)?.value, true)?;
+    check_eq(memory.swap(2, 5, 9, 0)?.value, false)?;
+    check_eq(memory.read(2, 6)?, Reply { value: 9, share: 1 })?;
+    has(&memory, [0, 15, 15, 14, 15, 15, 9], [0, 0, 0, 0, 0, 0, 1])
+}
+
+#[test]
+fn packed_refuses() -> Result<(), Fail> {
+    let mut memory = Cache::new(Packed::new());
+    memory.write(1, 6, 15)?;
+    memory.read(64, 6)?;
+    memory.read(1, 0)?;
+    let rows = [
+        (0, Operation::Write(7, 16), Refusal::Task),
+        (65, Operation::Swap(7, 16, 16), Refusal::Task),
+        (1, Operation::Write(7, 16), Refusal::Cell),
+        (64, Operation::Add(7, Step::Down), Refusal::Cell),
+        (1, Operation::Swap(7, 16, 16), Refusal::Cell),
+        (1, Operation::Write(6, 16), Refusal::Number),
+        (1, Operation::Swap(6, 16, 0), Refusal::Number),
+        (1, Operation::Swap(6, 15, 16), Refusal::Number),
+        (1, Operation::Add(0, Step::Down), Refusal::Sum),
+        (64, Operation::Add(6, Step::Up), Refusal::Sum),
+    ];
+    refuses(
+        &mut memory,
+        &rows,
+        [0, 0, 0, 0, 0, 0, 15],
+        [1, 0, 0, 0, 0, 0, 1],
+    )
+}
+
 #[test]
 fn show_and_holders_refuse_the_cell_alone() -> Result<(), Fail> {
     let memory = Cache::new(Words::new());
@@ -131,6 +180,10 @@ fn limits_and_ceilings() -> Result<(), Fail> {
     check_eq(Words::LIMIT, 4294967295)?;
     check_eq(Cache::<Words>::LIMIT, 4294967295)?;
     check_eq(Cache::<Words>::largest(), 4294967295)?;
+    check_eq(Packed::LIMIT, 15)?;
+    check_eq(Cache::<Packed>::LIMIT, 15)?;
+    check_eq(Cache::<Packed>::largest(), 15)?;
+    check_eq(Packed::new().ceiling(), 1)?;
     check_eq(Words::new().ceiling(), 1)?;
     check_eq(Cache::new(Words::new()).ceiling(), 1)
 }
