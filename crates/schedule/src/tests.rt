@@ -88,7 +88,7 @@ fn lone_writer() -> Result<(), Fail> {
 fn waiting() -> Result<(), Fail> {
     lists_on_each!(
         "WWR\nE 1\nE 2\nS 2\nS 1\nS 1\nS 1\nS 1\nS 1\nS 1\nS 1\nS 1\nS 1\nS 1\nS 1\nS 1\nS 1\nE 3\nS 3\nS 3\nS 3\nS 3\nS 3\nS 3\nS 3\n",
-        b"1 ok 3\n2 ok 2 0\n3 ok 2 0\n4 ok 2 0\n5 ok 10 0\n6 ok 20 1\n7 ok 30 1\n8 ok 40 2\n9 ok 90 3\n10 ok 100 4\n11 ok 110 4\n12 ok 120 5\n13 ok 130 6\n14 ok 140 7\n15 ok 150 8\n16 ok 60 9\n17 ok w 10\n18 ok 161 1\n19 ok 170 2\n20 ok 180 3\n21 ok 190 4\n22 ok 210 4\n23 ok 220 5\n24 ok 220 6\n25 ok 220 6\n"
+        b"1 ok 3\n2 ok 2 0\n3 ok 2 0\n4 ok 2 0\n5 ok 10 0\n6 ok 20 1\n7 ok 30 1\n8 ok 40 2\n9 ok 90 3\n10 ok 100 4\n11 ok 110 4\n12 ok 120 5\n13 ok 130 6\n14 ok 140 7\n15 ok 150 8\n16 ok 60 9\n17 ok w 10\n18 ok 161 1\n19 ok 170 2\n20 ok 180 3\n21 ok 190 4\n22 ok 210 4\n23 ok 220 4\n24 ok 220 5\n25 ok 220 5\n"
     )
 }
 
