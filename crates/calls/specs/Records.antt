@@ -2,12 +2,14 @@
 use mathlib.Core.Bool.{Bool, true, false, _&&_, _||_}
 use Prim.Native.Nat.{ℕ, _*_}
 use lib.Dec.{leb, ltb}
+use Rattle.std.specs.declared.option.Option.{Option}
 use Rattle.std.specs.declared.option.Option.the-variants.{None}
 use Rattle.lines.specs.declared.deed.Found.{Found}
 use Rattle.lines.specs.declared.place.Line.{Line}
 use Rattle.lines.specs.declared.place.Line.the-variants.{L0p1, L16}
 use Rattle.lines.specs.declared.place.Place.{Place}
 use Rattle.lines.specs.declared.place.Place.the-variants.{Rest, Inside, Next}
+use Rattle.lines.specs.declared.place.Right.{Right}
 use Rattle.lines.specs.declared.place.Role.{Role}
 use Rattle.lines.specs.declared.place.Role.the-variants.{Reader, Writer}
 use Rattle.lines.specs.Lines.{at-rest, goes, stepped}
@@ -27,6 +29,10 @@ begin-line Writer = L0p1
 -- the task stands before it
 abbrev pub begun : Record → Record
 begun r = record { track = goes (r .track) (begin-line (r .track .role)); account = restarted (r .account); out = r .out }
+
+-- the record with this pass out
+abbrev pub with-out : Record → Option Right → Record
+with-out r o = record { track = r .track; account = r .account; out = o }
 
 -- the account of a task that came to a place: at rest its attempt is finished
 abbrev pub arrived : Place → Account → Account

@@ -23,3 +23,7 @@ pub record State : Type 0 where
 -- the record of task t
 abbrev pub record-of : State → ℕ → Record
 record-of s t = getD (s .records) (t - 1) (fresh Reader)
+
+-- the state with another record of task t
+abbrev pub with-record : State → ℕ → Record → State
+with-record s t r = record { number = s .number; opened = s .opened; cells = s .cells; waiting = s .waiting; records = set (s .records) (t - 1) r; table = s .table }

@@ -4,6 +4,8 @@ pub mod calling;
 mod deeds;
 pub mod locks;
 pub mod opening;
+pub mod pass;
+pub mod passing;
 pub mod questions;
 pub mod records;
 mod settling;
