@@ -7,7 +7,7 @@ use Rattle.std.specs.declared.result.Result.{Result}
 use Rattle.std.specs.declared.result.Result.the-variants.{Ok, Err}
 use Rattle.calls.specs.declared.refusal.Refusal.{Refusal}
 use Rattle.lines.specs.declared.place.Right.{Right}
-use Rattle.calls.specs.Steps.{Answer, done, hands, no}
+use Rattle.calls.specs.Steps.{Answer, done, gives, hands, no}
 use Rattle.lock.specs.declared.pass.Kept.{Kept}
 
 -- a call that gives nothing but that it was obeyed
@@ -39,3 +39,8 @@ spent (Err k) = no (k .why)
 abbrev pub Handed-back : {P : Type 0} → P → Result (Unit {0}) (Kept P) → Type 0
 Handed-back p (Ok _) = Unit {0}
 Handed-back p (Err k) = k .pass ≡ p
+
+-- what a row answers
+abbrev pub row-told : Result (Option ℕ) Refusal → Answer
+row-told (Ok o) = gives o
+row-told (Err e) = no e

@@ -8,6 +8,7 @@ pub mod pass;
 pub mod passing;
 pub mod questions;
 pub mod records;
+pub mod rows;
 mod settling;
 #[cfg(test)]
 mod tests;

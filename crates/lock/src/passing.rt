@@ -105,4 +105,58 @@ impl<'a, M: Memory, Q: Queue> Lock<'a, M, Q> {
         );
         Ok(())
     }
+
+    // Hands out a reading pass to a task that has the reading right. Refused: 10, 20, 24, 25, 26.
+    pub fn take_read(&mut self, task: u32) -> Result<ReadPass, Refusal>
+        ensures { λ r. ⌜ Does M·Memory Q·Queue (take reading task) (now (self .entry)) (taken (λ p. (p .lock, p .task)) reading r) (now (self .exit)) ⌝ }
+    {
+        match self.take(Right::Reading, task) {
+            Ok(()) => Ok(ReadPass {
+                lock: self.number,
+                task,
+            }),
+            Err(why) => Err(why),
+        }
+    }
+
+    // Hands out a writing pass to a task that has the writing right. Refused: 10, 20, 24, 25, 26.
+    pub fn take_write(&mut self, task: u32) -> Result<WritePass, Refusal>
+        ensures { λ r. ⌜ Does M·Memory Q·Queue (take writing task) (now (self .entry)) (taken (λ p. (p .lock, p .task)) writing r) (now (self .exit)) ⌝ }
+    {
+        match self.take(Right::Writing, task) {
+            Ok(()) => Ok(WritePass {
+                lock: self.number,
+                task,
+            }),
+            Err(why) => Err(why),
+        }
+    }
+
+    // Lays a reading pass back. Refused, and the pass comes back: 10, 27, 28.
+    pub fn lay_back_read(&mut self, pass: ReadPass) -> Result<(), Kept<ReadPass>>
+        ensures does { λ r. ⌜ Does M·Memory Q·Queue (lay-back reading (pass .lock) (pass .task)) (now (self .entry)) (spent r) (now (self .exit)) ⌝ }
+        ensures back { λ r. ⌜ Handed-back pass r ⌝ }
+    {
+        match self.lay_back(Right::Reading, pass.lock, pass.task) {
+            Ok(()) => {
+                let ReadPass { lock: _, task: _ } = pass;
+                Ok(())
+            }
+            Err(why) => Err(Kept { pass, why }),
+        }
+    }
+
+    // Lays a writing pass back. Refused, and the pass comes back: 10, 27, 28.
+    pub fn lay_back_write(&mut self, pass: WritePass) -> Result<(), Kept<WritePass>>
+        ensures does { λ r. ⌜ Does M·Memory Q·Queue (lay-back writing (pass .lock) (pass .task)) (now (self .entry)) (spent r) (now (self .exit)) ⌝ }
+        ensures back { λ r. ⌜ Handed-back pass r ⌝ }
+    {
+        match self.lay_back(Right::Writing, pass.lock, pass.task) {
+            Ok(()) => {
+                let WritePass { lock: _, task: _ } = pass;
+                Ok(())
+            }
+            Err(why) => Err(Kept { pass, why }),
+        }
+    }
 }
