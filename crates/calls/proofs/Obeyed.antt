@@ -1,9 +1,8 @@
 -- What an obeyed call leaves: an open lock that has the task.
-use mathlib.Core.Path.{_≡_, refl, sym, ap, subst, _∙_}
-use mathlib.Core.Bool.{Bool}
+use mathlib.Core.Path.{_≡_, refl, ap, _∙_}
 use Prim.Native.Nat.{ℕ, _-_}
 use native.Mathlib.Omega.{arith}
-use lib.ListN.{length, length-set, set}
+use lib.ListN.{length, length-set}
 use Rattle.std.specs.declared.option.Option.{Option}
 use Rattle.std.specs.declared.option.Option.the-variants.{Some, None}
 use Rattle.std.specs.declared.result.Result.the-variants.{Ok}
@@ -16,7 +15,7 @@ use Rattle.calls.specs.States.{State, record-of}
 use Rattle.calls.specs.Questions.{task-refusal, begin-refusal, advance-refusal}
 use Rattle.calls.specs.Records.{begun}
 use Rattle.calls.specs.Told.{told}
-use Rattle.calls.specs.Steps.{Answer, done, no, Verdict, line, asked, begin, advance, deed-refusal, lined, Carried, Calls}
+use Rattle.calls.specs.Steps.{done, no, Verdict, line, asked, begin, advance, deed-refusal, lined, Carried, Calls}
 
 done-is-no : (e : Refusal) → done ≡ no e → ⊥
 done-is-no e h = let z : _≡_ {A = ℕ} 0 1 = cc in omega arith

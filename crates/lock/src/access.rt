@@ -1,7 +1,7 @@
 // A task's record read and replaced.
 ghost use mathlib.Core.Bool.{true};
 ghost use mathlib.Core.Path.{_≡_};
-ghost use Prim.Native.Nat.{_-_, _≤_, _<_};
+ghost use Prim.Native.Nat.{_-_, _≤_};
 ghost use lib.ListN.{length, set};
 ghost use Rattle.calls.specs.Records.{sound};
 ghost use Rattle.lock.specs.View.{records-of, record-at};

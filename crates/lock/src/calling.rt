@@ -1,6 +1,4 @@
 // The calls that move a task by one line.
-ghost use mathlib.Core.Bool.{true};
-ghost use mathlib.Core.Path.{_≡_};
 ghost use Prim.Native.Nat.{_≤_, _<_, _*_};
 ghost use lib.ListN.{length};
 ghost use Rattle.calls.specs.Questions.{advance-refusal, begin-refusal, task-refusal};

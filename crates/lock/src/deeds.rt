@@ -1,5 +1,4 @@
 // The one deed of a line, done on the memory or the queue.
-ghost use mathlib.Core.Path.{_≡_};
 ghost use Rattle.lock.specs.Performed.{Performed, Touched};
 use calls::refusal::FromMemory;
 use calls::refusal::FromQueue;

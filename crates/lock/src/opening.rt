@@ -6,7 +6,7 @@ ghost use mathlib.Core.Path.{_≡_};
 ghost use Prim.Native.Nat.{_≤_};
 ghost use lib.ListN.{length};
 ghost use Rattle.std.specs.Results.{Cases};
-ghost use Rattle.calls.specs.Opening.{Wrote, are-roles, enlisted, is-role, opening-cells, opening-writes, role-of};
+ghost use Rattle.calls.specs.Opening.{Wrote, are-roles, enlisted, opening-writes};
 ghost use Rattle.lock.specs.Answers.{Asked};
 ghost use Rattle.lock.specs.View.{Opened, closed-over, open-refused, records-of, view};
 use crate::locks::Lock;

@@ -4,7 +4,6 @@ ghost use Prim.Native.Nat.{_≤_};
 ghost use lib.ListN.{length};
 ghost use Rattle.lines.specs.declared.place.Right.the-variants.{Reading as reading, Writing as writing};
 ghost use Rattle.calls.specs.Questions.{out-for, pass-refusal, same-right, take-refusal};
-ghost use Rattle.calls.specs.Records.{with-out};
 ghost use Rattle.calls.specs.Steps.{lay-back, take};
 ghost use Rattle.lock.specs.Answers.{Asked, Handed-back, said, spent, taken};
 ghost use Rattle.lock.specs.View.{Does, Takes, records-of, view};

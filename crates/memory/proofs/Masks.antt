@@ -1,7 +1,7 @@
 -- A task put into a set of tasks, and the count of a set.
 use mathlib.Core.Path.{_≡_, refl, sym, ap, _∙_}
-use mathlib.Core.Logic.{inl, inr, ⊎-elim}
-use mathlib.Core.Bool.{true, cond}
+use mathlib.Core.Logic.{⊎-elim}
+use mathlib.Core.Bool.{cond}
 use Prim.Native.Nat.{ℕ, zero, suc, _+_, _-_, _*_, _/_, _%_, _^_, _<_, _≤_}
 use native.Mathlib.Nat.{div-eq-of-lt, div-self, mod-eq-of-lt, mod-one, mul-mod-left, pow-suc}
 use native.Mathlib.Numerals.{one-add}
@@ -11,7 +11,7 @@ use lib.Count.{ones, onesIn, ones-cat}
 use lib.Dec.{eqb}
 use Rattle.std.proofs.shelf.Bits.{mod-pow-add, pow-pos, pow-add, pow-below, shl-shr, mod-below}
 use Rattle.std.proofs.shelf.Tests.{cases-order}
-use Rattle.memory.specs.Copies.{holds, joined, Joins, members}
+use Rattle.memory.specs.Copies.{joined, Joins, members}
 
 -- another bit of a power of two is 0
 other-bit : (a b : ℕ) → (b ≡ a → ⊥) → 2 ^ a / 2 ^ b % 2 ≡ 0

@@ -1,8 +1,8 @@
 -- One line of a schedule was done.
-use mathlib.Core.Path.{_≡_, refl, sym, ap, subst}
-use mathlib.Core.Bool.{Bool, true, false}
+use mathlib.Core.Path.{_≡_, sym, subst}
+use mathlib.Core.Bool.{false}
 use mathlib.Core.List.{List, _∷_}
-use Prim.Native.Nat.{ℕ, _+_, _≤_, _<_}
+use Prim.Native.Nat.{ℕ, _+_, _≤_}
 use native.Mathlib.Omega.{arith}
 use lib.ListN.{length}
 use Rattle.std.specs.declared.option.Option.{Option}
@@ -18,7 +18,7 @@ use Rattle.schedule.specs.declared.obeying.Reply.the-variants.{Nothing, Note, 
 use Rattle.schedule.specs.declared.refusal.Refusal.{Refusal}
 use Rattle.schedule.specs.declared.schedule.Schedule.{Schedule}
 use Rattle.schedule.specs.Desks.{Desk-tells}
-use Rattle.schedule.specs.Listing.{Did-line, Ended, Gives-line, left, reply-bytes}
+use Rattle.schedule.specs.Listing.{Ended, Gives-line, left, reply-bytes}
 use Rattle.schedule.specs.Replies.{Heard, Obeyed, Within}
 
 pub within-more : (r : Result Reply Refusal) (m n : ℕ) → m ≤ n → Within r m → Within r n

@@ -20,8 +20,6 @@ use Rattle.calls.specs.declared.refusal.Refusal.{Refusal}
 use Rattle.calls.specs.States.{State, record-of}
 use Rattle.calls.specs.Steps.{Call}
 use Rattle.calls.specs.Steps as calls
-use Rattle.calls.specs.Told.{told}
-use Rattle.calls.specs.Questions.{task-refusal}
 use Rattle.lock.specs.declared.locks.Lock.{Lock}
 use Rattle.lock.specs.Answers.{said}
 use Rattle.lock.specs.View.{view, Does, Opened}

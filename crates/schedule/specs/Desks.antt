@@ -1,13 +1,12 @@
 -- What a desk answers, and what it leaves of its four locks.
 use mathlib.Core.Path.{_≡_}
 use mathlib.Core.Bool.{cond}
-use Prim.Native.Nat.{ℕ}
 use denote.Ref.{now, name, RefT}
 use Rattle.std.specs.Results.{isOk}
 use Rattle.std.specs.declared.option.Option.{Option}
 use Rattle.std.specs.declared.option.Option.the-variants.{Some, None}
 use Rattle.std.specs.declared.result.Result.{Result}
-use Rattle.std.specs.declared.result.Result.the-variants.{Ok, Err}
+use Rattle.std.specs.declared.result.Result.the-variants.{Err}
 use Rattle.memory.specs.declared.cache.Cache.{Cache}
 use Rattle.memory.specs.declared.interface.Memory.{Ghosts as MemoryGhosts}
 use Rattle.memory.specs.Layers.{cached}

@@ -17,7 +17,7 @@ use Rattle.script.specs.Cuts.{lines}
 use Rattle.script.specs.Reading.{to-come}
 use Rattle.listing.specs.declared.answer.Answer.the-variants.{Refused}
 use Rattle.listing.specs.Listing.{shown, noted}
-use Rattle.listing.specs.Written.{Put, Took-bytes}
+use Rattle.listing.specs.Written.{Took-bytes}
 use Rattle.schedule.specs.declared.desk.Desk.{Desk}
 use Rattle.schedule.specs.declared.schedule.Schedule.{Schedule}
 use Rattle.schedule.specs.declared.refusal.Refusal.{Refusal}

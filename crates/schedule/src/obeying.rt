@@ -1,5 +1,4 @@
 // Obeying one line of a schedule.
-ghost use mathlib.Core.Path.{_≡_};
 ghost use lib.ListN.{length};
 ghost use Rattle.script.specs.Calls.{parse as parsed};
 ghost use Rattle.schedule.specs.Desks.{Desk-tells};

@@ -1,8 +1,5 @@
 // Running a schedule line by line. Each line of the listing is written at the start of a lent buffer.
-ghost use mathlib.Core.Bool.{not};
-ghost use mathlib.Core.Path.{_≡_};
 ghost use Prim.Native.Nat.{ℕ, _+_, _≤_};
-ghost use lib.Dec.{leb};
 ghost use lib.ListN.{length};
 ghost use Rattle.listing.specs.Written.{Put};
 ghost use Rattle.schedule.specs.Replies.{Within, heard};
