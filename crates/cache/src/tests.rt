@@ -169,11 +169,13 @@ fn show_and_holders_refuse_the_cell_alone(rt: HostRuntime) {
 
 #[test]
 fn limits_and_ceilings(rt: HostRuntime) {
+    assert_eq!(rt; Words::LIMIT, 4294967295);
     assert_eq!(rt; Cache::<Words>::LIMIT, 4294967295);
     assert_eq!(rt; Cache::<Words>::largest(), 4294967295);
     assert_eq!(rt; Packed::LIMIT, 15);
     assert_eq!(rt; Cache::<Packed>::LIMIT, 15);
     assert_eq!(rt; Cache::<Packed>::largest(), 15);
     assert_eq!(rt; Packed::new().ceiling(), 1);
+    assert_eq!(rt; Words::new().ceiling(), 1);
     assert_eq!(rt; Cache::new(Words::new()).ceiling(), 1);
 }

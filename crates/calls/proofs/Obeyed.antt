@@ -7,13 +7,13 @@ use Rattle.lines.specs.declared.place.Right.{Right}
 use Rattle.lines.specs.declared.place.Right.TheVariants.{Reading, Writing}
 use Rattle.lines.specs.declared.place.Role.TheVariants.{Reader}
 use Rattle.lines.specs.Lines.{next_deed}
-use Rattle.lines.specs.Rights.{is_right, right_of, same_right}
+use Rattle.lines.specs.Rights.{right_of, same_right}
 use Rattle.calls.specs.declared.refusal.Refusal.{Refusal}
 use Rattle.calls.specs.declared.refusal.Refusal.TheVariants.{NoPass, NoTask, OtherLock, Shut}
 use Rattle.calls.specs.declared.record.Record.{Record}
 use Rattle.calls.specs.Records.{begun, downgrading, fresh, leaving, upgrading, with_out}
 use Rattle.calls.specs.States.{State, record_of, with_record, with_row}
-use Rattle.calls.specs.Questions.{ask, task_refusal, begin_refusal, advance_refusal, take_refusal, pass_refusal, upgrade_refusal, row_refusal, thickness_refusal, is_out}
+use Rattle.calls.specs.Questions.{ask, task_refusal, begin_refusal, advance_refusal, take_refusal, pass_refusal, upgrade_refusal, row_refusal, thickness_refusal, is_out, out_for}
 use Rattle.calls.specs.Told.{told}
 use Rattle.calls.specs.Steps.{Answer, done, hands, gives, no, Verdict, refuse, line, at_once, asked, judge, row_answer, Call, begin, advance, take, lay_back, upgrade, downgrade, leave, read, put, deed_refusal, lined, Carried, Calls}
 
@@ -139,7 +139,7 @@ out_there s t w k =
     let high = leb-true t (length s.records) k.high in
     let own : record_of z t ≡ r = get_or-set_same s.records (t - 1) r (fresh Reader) (omega arith) in
     let count : leb t (length z.records) ≡ true = ap (leb t) (length-set s.records (t - 1) r) ∙ k.high in
-    let right : is_right (record_of z t).out w ≡ true = ap (λ (x : Record). is_right x.out w) own ∙ same_itself w in
+    let right : out_for (record_of z t).out w ≡ true = ap (λ (x : Record). out_for x.out w) own ∙ same_itself w in
     let out : is_out z w t ≡ true = and_from _ _ (and_from _ _ k.low count) right in
     ap (λ b. ask b Shut (ask (eqb s.number s.number) OtherLock (ask (is_out z w t) NoPass None))) k.opened
     ∙ ap (λ b. ask b OtherLock (ask (is_out z w t) NoPass None)) (eq-eqb s.number s.number refl)

@@ -23,7 +23,7 @@ use Rattle.calls.specs.declared.record.Record.{Record}
 use Rattle.calls.specs.Accounts.{charged}
 use Rattle.calls.specs.declared.refusal.Refusal.{Refusal}
 use Rattle.calls.specs.declared.refusal.Refusal.TheVariants.{Finished, OtherRight, Upgrades}
-use Rattle.calls.specs.Questions.{advance_refusal, advance_refusal_at, begin_refusal, begin_refusal_at, ask, take_refusal, upgrade_refusal}
+use Rattle.calls.specs.Questions.{advance_refusal, advance_refusal_at, begin_refusal, begin_refusal_at, ask, out_for, take_refusal, upgrade_refusal}
 use Rattle.calls.specs.Records.{arrived, begun, changes_fit, downgrading, finishes_fit, fresh, leaving, writing_ahead, ahead_at, ahead_line, pass_fits, rests_at, settled, sound, upgrading, with_out}
 
 -- The parts of what a record keeps.
@@ -257,7 +257,7 @@ same_is Reading Writing h = let z : ◌≡◌ {A = ℕ} 0 1 = cc in absurd (omeg
 same_is Writing Reading h = let z : ◌≡◌ {A = ℕ} 0 1 = cc in absurd (omega arith)
 same_is Writing Writing h = refl
 
-has_out : (has out : Option Right) (w : Right) → pass_fits has out ≡ true → is_right out w ≡ true → has ≡ Some w
+has_out : (has out : Option Right) (w : Right) → pass_fits has out ≡ true → out_for out w ≡ true → has ≡ Some w
 has_out has None w h k = let z : ◌≡◌ {A = ℕ} 0 1 = cc in absurd (omega arith)
 has_out None (Some v) w h k = let z : ◌≡◌ {A = ℕ} 0 1 = cc in absurd (omega arith)
 has_out (Some u) (Some v) w h k = ap Some (same_is u v h ∙ same_is v w k)
@@ -272,7 +272,7 @@ pub record Holder (r : Record) (w : Right) : Type 0 where
   pub room : Room r.account
   pub changes : Changes (same_right w Writing) r.account
 
-pub holder : (r : Record) (w : Right) → sound r ≡ true → is_right r.out w ≡ true → Holder r w
+pub holder : (r : Record) (w : Right) → sound r ≡ true → out_for r.out w ≡ true → Holder r w
 holder r w h out =
     let s = parts r h in
     let has = has_out (right_of r.track) r.out w s.pass out in
@@ -288,7 +288,7 @@ moving r l at clear room c =
       pass = ap (pass_fits (right_of r.track)) clear;
     })
 
-pub upgrading_sound : (r : Record) → sound r ≡ true → is_right r.out Reading ≡ true → upgrade_refusal r ≡ None → sound (upgrading r) ≡ true
+pub upgrading_sound : (r : Record) → sound r ≡ true → out_for r.out Reading ≡ true → upgrade_refusal r ≡ None → sound (upgrading r) ≡ true
 upgrading_sound r h out few =
     let k = holder r Reading h out in
     let less = ltb-true _ _ (asked_yes (ltb r.account.u 1000) Upgrades few) in
@@ -303,7 +303,7 @@ downgrade_ends Writer Normal = lit≤ tt
 downgrade_ends Writer Upgraded = lit≤ tt
 downgrade_ends Writer Downgraded = lit≤ tt
 
-pub downgrading_sound : (r : Record) → sound r ≡ true → is_right r.out Writing ≡ true → sound (downgrading r) ≡ true
+pub downgrading_sound : (r : Record) → sound r ≡ true → out_for r.out Writing ≡ true → sound (downgrading r) ≡ true
 downgrading_sound r h out =
     let k = holder r Writing h out in
     let w = downgrade_ends r.track.role r.track.standing in
@@ -317,7 +317,7 @@ leave_ends Writer Normal = lit≤ tt
 leave_ends Writer Upgraded = lit≤ tt
 leave_ends Writer Downgraded = lit≤ tt
 
-pub leaving_sound : (r : Record) (w : Right) → sound r ≡ true → is_right r.out w ≡ true → sound (leaving r) ≡ true
+pub leaving_sound : (r : Record) (w : Right) → sound r ≡ true → out_for r.out w ≡ true → sound (leaving r) ≡ true
 leaving_sound r w h out =
     let k = holder r w h out in
     let e = leave_ends r.track.role r.track.standing in

@@ -1,7 +1,7 @@
 -- The questions before a call, in their order: the first that is answered no gives the refusal.
-use Rattle.std.specs.Prelude.{ℕ, Bool, cond, ◌&&◌, length, Some, None, Option, ◌==◌, nat_le, nat_lt}
+use Rattle.std.specs.Prelude.{ℕ, Bool, false, cond, ◌&&◌, length, Some, None, Option, ◌==◌, nat_le, nat_lt}
 use Rattle.lines.specs.declared.place.Right.{Right}
-use Rattle.lines.specs.Rights.{same_right, is_right}
+use Rattle.lines.specs.Rights.{same_right}
 use Rattle.lines.specs.declared.place.Place.{Place}
 use Rattle.lines.specs.declared.place.Place.TheVariants.{Rest, Inside, Next}
 use Rattle.calls.specs.declared.refusal.Refusal.{Refusal}
@@ -40,9 +40,14 @@ take_refusal None out w = Some Outside
 take_refusal (Some v) (Some x) w = Some PassOut
 take_refusal (Some v) None w = ask (same_right v w) OtherRight None
 
+-- whether the pass that is out is for this right
+abbrev pub out_for : Option Right → Right → Bool
+out_for None w = false
+out_for (Some v) w = same_right v w
+
 -- whether such a pass is out to that task
 abbrev pub is_out : State → Right → ℕ → Bool
-is_out s w t = (nat_le 1 t && nat_le t (length s.records)) && is_right (record_of s t).out w
+is_out s w t = (nat_le 1 t && nat_le t (length s.records)) && out_for (record_of s t).out w
 
 -- on the lock and a pass, which bears a right, a lock number and a task
 abbrev pub pass_refusal : State → Right → ℕ → ℕ → Option Refusal

@@ -17,8 +17,6 @@ pub enum Answer {
     Opened(u32),
     // the place of the task and its cost
     Moved(Place, u32),
-    // the same, and a row's thickness, or nothing where nobody has measured the rib
-    Row(Place, u32, Option<u32>),
     // the number of the refusal
     Refused(u32),
 }

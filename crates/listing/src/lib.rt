@@ -1,5 +1,7 @@
 // The lines of a listing, written into a lent buffer. Each is the number of a
 // line, a space, a text, and byte 10: the text is a note, or tells an answer.
+#![tactic(auto)]
+
 pub mod answer;
 mod draft;
 mod pieces;

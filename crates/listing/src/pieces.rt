@@ -2,7 +2,7 @@
 // A number of 32 bits has at most ten digits, so ten free bytes are room for each.
 ghost use Rattle.std.specs.Prelude.{◌≡◌, ◌+◌, ◌≤◌, [], ◌++◌, length, decimal};
 ghost use Rattle.listing.specs.Drafts.{held};
-ghost use Rattle.listing.specs.Answers.{place as placed, thickness};
+ghost use Rattle.listing.specs.Answers.{place as placed};
 
 use crate::answer::Place;
 use crate::draft::Draft;
@@ -59,19 +59,6 @@ impl Draft {
             Place::Reading => self.text(b"r"),
             Place::Writing => self.text(b"w"),
             Place::At(n) => self.number(n),
-        }
-    }
-
-    // The thickness, or "absent".
-    pub(crate) fn thickness(&mut self, row: Option<u32>)
-        requires { self.old.end + 10 ≤ 64 }
-        ensures holds { held self.new ≡ held self.old ++ thickness row }
-        ensures grown { self.new.end ≡ self.old.end + length (thickness row) }
-        ensures short { length (thickness row) ≤ 10 }
-    {
-        match row {
-            Some(n) => self.number(n),
-            None => self.text(b"absent"),
         }
     }
 

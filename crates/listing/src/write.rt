@@ -12,7 +12,7 @@ use crate::draft::Draft;
 // What a listing tells of an answer.
 fn telling(answer: Answer) -> Draft
     ensures holds { held result ≡ told answer }
-    ensures short { length (told answer) ≤ 35 }
+    ensures short { length (told answer) ≤ 24 }
 {
     let mut draft = Draft::new();
     match answer {
@@ -25,14 +25,6 @@ fn telling(answer: Answer) -> Draft
             draft.place(place);
             draft.text(b" ");
             draft.number(cost);
-        }
-        Answer::Row(place, cost, row) => {
-            draft.text(b"ok ");
-            draft.place(place);
-            draft.text(b" ");
-            draft.number(cost);
-            draft.text(b" ");
-            draft.thickness(row);
         }
         Answer::Refused(why) => {
             draft.text(b"no ");

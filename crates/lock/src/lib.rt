@@ -1,4 +1,6 @@
 // The lock over any memory and any queue: its tasks' records and the calls.
+#![tactic(auto)]
+
 mod access;
 pub mod calling;
 mod deeds;

@@ -1,8 +1,8 @@
 // Passes handed out and laid back.
 ghost use Rattle.std.specs.Prelude.{◌≡◌, ◌≤◌, true, length};
 ghost use Rattle.lines.specs.declared.place.Right.TheVariants.{Reading as reading, Writing as writing};
-ghost use Rattle.lines.specs.Rights.{is_right, same_right};
-ghost use Rattle.calls.specs.Questions.{pass_refusal, take_refusal};
+ghost use Rattle.lines.specs.Rights.{same_right};
+ghost use Rattle.calls.specs.Questions.{out_for, pass_refusal, take_refusal};
 ghost use Rattle.calls.specs.Steps.{lay_back, take};
 ghost use Rattle.lock.specs.Answers.{Asked, HandedBack, said, spent, taken};
 ghost use Rattle.lock.specs.View.{Does, Takes, record_at, records_of, view};
@@ -27,7 +27,7 @@ fn is_same(a: Right, b: Right) -> bool
 
 // Whether the pass that is out is for this right.
 fn is_for(out: Option<Right>, right: Right) -> bool
-    ensures { result ≡ is_right out right }
+    ensures { result ≡ out_for out right }
 {
     match out {
         Some(given) => is_same(given, right),
@@ -54,7 +54,7 @@ fn may_take(has: Option<Right>, out: Option<Right>, wanted: Right) -> Result<(),
 impl<'a, M: Memory, Q: Queue> Lock<'a, M, Q> {
     // The questions on the lock and a pass.
     pub(crate) fn ask_pass(&self, right: Right, number: u32, task: u32) -> Result<(), Refusal>
-        ensures { Asked (pass_refusal (view M.Memory Q.Queue self.now) right number task) result ((1 ≤ task) × (task ≤ length (records_of self.now.records)) × (is_right (record_at (records_of self.now.records) task).out right ≡ true)) }
+        ensures { Asked (pass_refusal (view M.Memory Q.Queue self.now) right number task) result ((1 ≤ task) × (task ≤ length (records_of self.now.records)) × (out_for (record_at (records_of self.now.records) task).out right ≡ true)) }
     {
         if !self.opened {
             return Err(Refusal::Shut);

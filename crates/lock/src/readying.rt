@@ -1,8 +1,7 @@
 // A task's record made ready for the line of a call: it stands before that line, and a pass that the call spends is no longer out.
 ghost use Rattle.std.specs.Prelude.{◌≡◌, true};
 ghost use Rattle.lines.specs.declared.place.Right.TheVariants.{Reading as reading, Writing as writing};
-ghost use Rattle.lines.specs.Rights.{is_right};
-ghost use Rattle.calls.specs.Questions.{advance_refusal, begin_refusal, upgrade_refusal};
+ghost use Rattle.calls.specs.Questions.{advance_refusal, begin_refusal, out_for, upgrade_refusal};
 ghost use Rattle.calls.specs.Records.{begun, downgrading, leaving, sound, upgrading};
 ghost use Rattle.lock.specs.Ready.{Readied, Ready};
 
@@ -39,7 +38,7 @@ pub(crate) fn ready_to_advance(task: Record) -> Result<Record, Refusal>
 // An upgrade: line 27.1. Refused: 29.
 pub(crate) fn ready_to_upgrade(mut task: Record) -> Result<Record, Refusal>
     requires sound { sound task ≡ true }
-    requires out { is_right task.out reading ≡ true }
+    requires out { out_for task.out reading ≡ true }
     ensures { Readied (upgrade_refusal task) (upgrading task) result }
 {
     if task.account.u >= 1000 {
@@ -54,7 +53,7 @@ pub(crate) fn ready_to_upgrade(mut task: Record) -> Result<Record, Refusal>
 // A downgrade: line 25.1 or 28.1.
 pub(crate) fn ready_to_downgrade(mut task: Record) -> Record
     requires sound { sound task ≡ true }
-    requires out { is_right task.out writing ≡ true }
+    requires out { out_for task.out writing ≡ true }
     ensures is { result ≡ downgrading task }
     ensures ready { Ready result }
 {
@@ -67,7 +66,7 @@ pub(crate) fn ready_to_downgrade(mut task: Record) -> Record
 // A leave with a pass for this right: line 7, 23, 26.1 or 28.1.
 pub(crate) fn ready_to_leave(mut task: Record, right: Right) -> Record
     requires sound { sound task ≡ true }
-    requires out { is_right task.out right ≡ true }
+    requires out { out_for task.out right ≡ true }
     ensures is { result ≡ leaving task }
     ensures ready { Ready result }
 {

@@ -1,9 +1,9 @@
-// The rows of the table, read and put by those who show a pass.
+// The rows of the table, for those who show a pass.
 ghost use Rattle.std.specs.Prelude.{◌≡◌, ◌<◌};
 ghost use Rattle.lines.specs.declared.place.Right.TheVariants.{Reading as reading, Writing as writing};
-ghost use Rattle.calls.specs.Questions.{row_refusal, thickness_refusal};
-ghost use Rattle.calls.specs.Steps.{put, read, row_answer};
-ghost use Rattle.lock.specs.Answers.{Asked, row_told, said};
+ghost use Rattle.calls.specs.Questions.{row_refusal};
+ghost use Rattle.calls.specs.Steps.{read, row_answer};
+ghost use Rattle.lock.specs.Answers.{Asked, row_told};
 ghost use Rattle.lock.specs.View.{Does};
 
 use crate::locks::Lock;
@@ -19,16 +19,6 @@ fn has_row(row: usize, rows: usize) -> Result<(), Refusal>
 {
     if row >= rows {
         return Err(Refusal::NoRow);
-    }
-    Ok(())
-}
-
-// Whether a thickness is lawful.
-fn is_lawful(thickness: u32) -> Result<(), Refusal>
-    ensures { Asked (thickness_refusal thickness) result (Unit {0}) }
-{
-    if thickness < 1 || thickness > 1000000 {
-        return Err(Refusal::Thickness);
     }
     Ok(())
 }
@@ -68,23 +58,5 @@ impl<'a, M: Memory, Q: Queue> Lock<'a, M, Q> {
         ensures { Does M.Memory Q.Queue (read writing pass.now.lock pass.now.task row) self.now (row_told result) self.now }
     {
         self.row(Right::Writing, pass.lock, pass.task, row)
-    }
-
-    // A thickness goes into a row, for a writing pass of this task.
-    fn put_by(&mut self, number: u32, task: u32, row: usize, thickness: u32) -> Result<(), Refusal>
-        ensures { Does M.Memory Q.Queue (put number task row thickness) self.old (said result) self.new }
-    {
-        self.ask_pass(Right::Writing, number, task)?;
-        has_row(row, self.table.len())?;
-        is_lawful(thickness)?;
-        self.table[row] = thickness;
-        Ok(())
-    }
-
-    // Stores a thickness in a row. Refused: 10, 27, 28, 30, 31.
-    pub fn put(&mut self, pass: &WritePass, row: usize, thickness: u32) -> Result<(), Refusal>
-        ensures { Does M.Memory Q.Queue (put pass.now.lock pass.now.task row thickness) self.old (said result) self.new }
-    {
-        self.put_by(pass.lock, pass.task, row, thickness)
     }
 }

@@ -1,4 +1,6 @@
 // ribrun: reads a schedule from standard input, and prints its listing.
+#![tactic(auto)]
+
 use cache::layer::Cache;
 use lock::locks::Lock;
 use masks::before::Masks;

@@ -5,9 +5,8 @@ ghost use Rattle.calls.specs.Steps.{begin as line_begin, advance as line_advance
 ghost use Rattle.calls.specs.Told.{told};
 ghost use Rattle.lock.specs.View.{view};
 ghost use Rattle.script.specs.Calls.{ask};
-ghost use Rattle.schedule.specs.Answers.{Moves, OpensTo, Tells, place_shown, row_shown, task_shown};
+ghost use Rattle.schedule.specs.Answers.{Moves, OpensTo, Tells, place_shown, task_shown};
 
-use crate::passes::{downgrade, leave, put, read, upgrade};
 use calls::refusal::Refusal;
 use lines::place::{Place, Right};
 use listing::answer::{Answer, Place as Shown};
@@ -29,10 +28,7 @@ fn shown(place: Place, right: Option<Right>) -> Shown
 }
 
 // The place and the cost of a task.
-pub(crate) fn moved<M: Memory, Q: Queue>(
-    lock: &Lock<'_, M, Q>,
-    task: u32,
-) -> Result<Answer, Refusal>
+fn moved<M: Memory, Q: Queue>(lock: &Lock<'_, M, Q>, task: u32) -> Result<Answer, Refusal>
     ensures { result ≡ told (task_refusal (view M.Memory Q.Queue lock.now) task) (task_shown (view M.Memory Q.Queue lock.now) task) }
 {
     let place = lock.place(task)?;
@@ -41,38 +37,20 @@ pub(crate) fn moved<M: Memory, Q: Queue>(
     Ok(Answer::Moved(shown(place, right), account.cost))
 }
 
-// The same, and what a row gave.
-pub(crate) fn row_told<M: Memory, Q: Queue>(
-    lock: &Lock<'_, M, Q>,
-    task: u32,
-    row: Option<u32>,
-) -> Result<Answer, Refusal>
-    ensures { result ≡ told (task_refusal (view M.Memory Q.Queue lock.now) task) (row_shown (view M.Memory Q.Queue lock.now) task row) }
-{
-    let place = lock.place(task)?;
-    let right = lock.right(task)?;
-    let account = lock.account(task)?;
-    Ok(Answer::Row(shown(place, right), account.cost, row))
-}
-
 // Begin, and where the task then is.
 fn begin<M: Memory, Q: Queue>(lock: &mut Lock<'_, M, Q>, task: u32) -> Result<Answer, Refusal>
     ensures { Moves M.Memory Q.Queue (line_begin task) task lock.old result lock.new }
 {
-    match lock.begin(task) {
-        Ok(()) => moved(lock, task),
-        Err(why) => Err(why),
-    }
+    lock.begin(task)?;
+    moved(lock, task)
 }
 
 // Advance, and where the task then is.
 fn advance<M: Memory, Q: Queue>(lock: &mut Lock<'_, M, Q>, task: u32) -> Result<Answer, Refusal>
     ensures { Moves M.Memory Q.Queue (line_advance task) task lock.old result lock.new }
 {
-    match lock.advance(task) {
-        Ok(()) => moved(lock, task),
-        Err(why) => Err(why),
-    }
+    lock.advance(task)?;
+    moved(lock, task)
 }
 
 // Open, and how many tasks there then are.
@@ -94,10 +72,5 @@ pub(crate) fn answer<M: Memory, Q: Queue>(
         Call::Open(_, _, roles) => open(lock, roles),
         Call::Begin(task) => begin(lock, task),
         Call::Advance(task) => advance(lock, task),
-        Call::Upgrade(task) => upgrade(lock, task),
-        Call::Downgrade(task) => downgrade(lock, task),
-        Call::Leave(task) => leave(lock, task),
-        Call::Read(task, row) => read(lock, task, row),
-        Call::Put(task, row, thickness) => put(lock, task, row, thickness),
     }
 }

@@ -1,10 +1,11 @@
 // Schedules: a schedule's lines are read one after another, each call is made to
 // the lock, and the line of the listing is written into a lent buffer.
+#![tactic(auto)]
+
 mod answers;
 pub mod desk;
 pub mod desking;
 mod obeying;
-mod passes;
 pub mod refusal;
 pub mod running;
 pub mod schedule;

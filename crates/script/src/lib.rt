@@ -1,5 +1,7 @@
 // The text of a schedule: its lines, and the call or note that each line says.
 // Lines, fields and notes are parts of the input; nothing is copied.
+#![tactic(auto)]
+
 pub mod call;
 mod fields;
 pub mod lines;

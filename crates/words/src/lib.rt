@@ -1,4 +1,6 @@
 // Words: a memory of seven 32-bit numbers.
+#![tactic(auto)]
+
 pub mod array;
 #[cfg(test)]
 mod tests;

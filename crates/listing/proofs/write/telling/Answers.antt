@@ -3,6 +3,3 @@ use Rattle.listing.proofs.write.telling.Goals as goal
 
 pub returns-in-Moved : goal.returns-in-Moved
 returns-in-Moved c = record { holds = search rules; short = rw c.in-Moved.is (simp length-append (omega arith)) }
-
-pub returns-in-Row : goal.returns-in-Row
-returns-in-Row c = record { holds = search rules; short = rw c.in-Row.is (simp length-append (omega arith)) }

@@ -1,13 +1,9 @@
-use Rattle.std.proofs.Common.{refl, ◌∙◌}
-use Rattle.calls.specs.Steps.{done, no}
+use Rattle.std.proofs.Common.{Ok, ◌∙◌}
 use Rattle.calls.proofs.Obeyed.{advanced_task, told_all}
 use Rattle.schedule.proofs.answers.advance.Goals as goal
 
 -- the task has its place and cost, since an obeyed advance leaves it a task of an open lock
-pub returns-in-Ok : goal.returns-in-Ok
-returns-in-Ok g c =
-    let d = c.in-Ok.ensures in
-    (done, d, c.moved.ensures ∙ told_all _ _ (advanced_task g.M.Memory.does g.M.Memory.limit _ _ _ _ c.args.task d.0))
-
-pub returns-in-Err : goal.returns-in-Err
-returns-in-Err g c = (no c.in-Err.why, c.in-Err.ensures, refl)
+pub returns : goal.returns
+returns g c =
+    let d = c.in-ok-advance.ensures in
+    (Ok tt, d, c.moved.ensures ∙ told_all _ _ (advanced_task g.M.Memory.does g.M.Memory.limit _ _ _ _ c.args.task d.0))
