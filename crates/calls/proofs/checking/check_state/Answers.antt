@@ -8,5 +8,5 @@ returns c =
     record {
       value = grind (arith, nat_tests);
       sound = λ e. sound_from c.args.cells.now c.args.tasks.now (cc);
-      complete = λ some few s. ap Ok (c.first-broken.ensures ∙ sound_unbroken c.args.cells.now c.args.tasks.now s);
+      complete = λ some few s. ap Ok (c.first_broken.ensures ∙ sound_unbroken c.args.cells.now c.args.tasks.now s);
     }

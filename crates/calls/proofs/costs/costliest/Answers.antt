@@ -14,7 +14,7 @@ loop-i-preserved c =
 pub returns : goal.returns
 returns c =
     let tasks = c.args.tasks.now in
-    let ne = eqb-false (length tasks) 0 (sym c.if-is-empty.ensures) in
+    let ne = eqb-false (length tasks) 0 (sym c.if-is_empty.ensures) in
     let some : 1 ≤ length tasks = omega arith in
     let all : c.loop-i.i ≡ length tasks = omega (arith, c.loop-i.auto.i-end some) in
     let best = subst (λ (n : ℕ). BestCost tasks n c.loop-i.best) all c.loop-i.invariant in

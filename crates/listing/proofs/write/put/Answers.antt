@@ -12,7 +12,7 @@ returns c =
     let head = c.args.head.now in
     let text = c.args.text.now in
     let end = length head + length text in
-    let first = laid_more d [] head _ 0 (length head - 0) refl c.copy-from-slice.ensures.after (omega arith) in
-    let second = laid_more d head text _ (length head) (end - length head) refl c.copy-from-slice-2.ensures.after (omega arith) in
+    let first = laid_more d [] head _ 0 (length head - 0) refl c.copy_from_slice.ensures.after (omega arith) in
+    let second = laid_more d head text _ (length head) (end - length head) refl c.copy_from_slice-2.ensures.after (omega arith) in
     let third = laid_one d (head ++ text) end 10 (sym (length-append head text)) (omega arith) in
     record { line = record { room = simp length-append (omega arith); count = simp length-append; after = cc }; long = simp length-append }

@@ -5,8 +5,8 @@ use Rattle.calls.proofs.Sound.{downgrading_sound, holder}
 use Rattle.lock.proofs.Ready.{ready_as}
 use Rattle.lock.proofs.readying.ready_to_downgrade.Goals as goal
 
-pub overflow-add-task : goal.overflow-add-task
-overflow-add-task c = let k = (holder c.args.task Writing c.requires.sound c.requires.out).changes in omega (arith, k.upgrades, k.downgrades)
+pub overflow_add-task : goal.overflow_add-task
+overflow_add-task c = let k = (holder c.args.task Writing c.requires.sound c.requires.out).changes in omega (arith, k.upgrades, k.downgrades)
 
 pub returns : goal.returns
 returns c =

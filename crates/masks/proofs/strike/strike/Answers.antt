@@ -11,7 +11,7 @@ loop-set-preserved c =
     let ys = c.loop-set.sets in
     let i = c.loop-set.set-index in
     let x = get_or ys i 0 in
-    ap (set ys i) c.take-out.ensures ∙ map_over_more (λ m. without m c.args.task) xs ys i x c.loop-set-test.true c.loop-set.invariant (get_or_default ys i 0 x (omega (arith, c.loop-set.auto.sets)))
+    ap (set ys i) c.take_out.ensures ∙ map_over_more (λ m. without m c.args.task) xs ys i x c.loop-set-test.true c.loop-set.invariant (get_or_default ys i 0 x (omega (arith, c.loop-set.auto.sets)))
 
 pub returns : goal.returns
 returns c =

@@ -7,4 +7,4 @@ pub returns : goal.returns
 returns g c =
     let m = g.M.Memory in
     let s = c.args.self.now in
-    (opens m.cells m.top m.does g.met.M.Memory.kept _ (view m g.Q.Queue s) _ s.memory _ c.args.roles.now c.in-ok-ask-open.ensures.0 c.in-ok-set-cells.ensures refl (g.met.M.Memory.seven s.memory) refl refl refl c.enlist-all-self.ensures refl, refl)
+    (opens m.cells m.top m.does g.met.M.Memory.kept _ (view m g.Q.Queue s) _ s.memory _ c.args.roles.now c.in_ok-ask_open.ensures.0 c.in_ok-set_cells.ensures refl (g.met.M.Memory.seven s.memory) refl refl refl c.enlist_all-self.ensures refl, refl)

@@ -7,6 +7,6 @@ pub put-requires : goal.put-requires
 put-requires g c =
     let r = c.get-record.result in
     let w = c.args.right in
-    let free = ap (λ has. take_refusal has r.out w) (sym c.right.ensures) ∙ c.in-ok-may-take.ensures.0 in
-    let at = c.in-ok-ask-task.ensures.1 in
+    let free = ap (λ has. take_refusal has r.out w) (sym c.right.ensures) ∙ c.in_ok-may_take.ensures.0 in
+    let at = c.in_ok-ask_task.ensures.1 in
     record { low = at.0; high = at.1; sound = out_sound r w c.get-record.ensures.sound free }

@@ -3,12 +3,12 @@ use Rattle.std.proofs.Common.{rules}
 use Rattle.masks.proofs.Kept.{kept_quit}
 use Rattle.masks.proofs.before.Masks.remove.Goals as goal
 
-pub invariant-of-self : goal.invariant-of-self
-invariant-of-self c =
+pub invariant_of-self : goal.invariant_of-self
+invariant_of-self c =
     let s = c.args.self.now in
-    (search rules, ((kept_quit s.before c.strike.new.sets s.who c.args.task c.take-out.new.set s.places s.kept c.requires.1.1 c.strike.ensures c.take-out.ensures).1, tt))
+    record { places = search rules; kept = (kept_quit s.before c.strike.new.sets s.who c.args.task c.take_out.new.set s.places s.kept c.requires.1.1 c.strike.ensures c.take_out.ensures).1 }
 
 pub returns : goal.returns
 returns c =
     let s = c.args.self.now in
-    (kept_quit s.before c.strike.new.sets s.who c.args.task c.take-out.new.set s.places s.kept c.requires.1.1 c.strike.ensures c.take-out.ensures).0
+    (kept_quit s.before c.strike.new.sets s.who c.args.task c.take_out.new.set s.places s.kept c.requires.1.1 c.strike.ensures c.take_out.ensures).0

@@ -6,11 +6,11 @@ use Rattle.queue.proofs.Lawful.{lawful_rest}
 use Rattle.queue.proofs.Round.{round_rest}
 use Rattle.queue.proofs.ring.Ring.advance.Goals as goal
 
-pub invariant-of-self : goal.invariant-of-self
-invariant-of-self c =
+pub invariant_of-self : goal.invariant_of-self
+invariant_of-self c =
     let s = c.args.self.now in
     let e = round_rest s.numbers s.start s.count in
-    (s.places, (omega arith, (omega arith, (ap lawful e ∙ lawful_rest (round s.numbers s.start s.count) s.distinct, tt))))
+    record { places = s.places; inside = omega arith; fits = omega arith; distinct = ap lawful e ∙ lawful_rest (round s.numbers s.start s.count) s.distinct }
 
 pub returns : goal.returns
 returns c = let s = c.args.self.now in round_rest s.numbers s.start s.count

@@ -3,11 +3,11 @@ use Rattle.std.proofs.Common.{arith, rules}
 use Rattle.queue.proofs.Round.{round_join}
 use Rattle.queue.proofs.ring.Ring.append.Goals as goal
 
-pub invariant-of-self : goal.invariant-of-self
-invariant-of-self c =
+pub invariant_of-self : goal.invariant_of-self
+invariant_of-self c =
     let s = c.args.self.now in
     let e = round_join s.numbers c.args.task s.start s.count s.places s.inside s.distinct c.requires.0 c.requires.1.0 c.requires.1.1 in
-    (search rules, (s.inside, (omega (arith, e.0), (e.2, tt))))
+    record { places = search rules; inside = s.inside; fits = omega (arith, e.0); distinct = e.2 }
 
 pub returns : goal.returns
 returns c =
