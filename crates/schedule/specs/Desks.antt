@@ -1,6 +1,6 @@
 -- What a desk answers, and what it leaves of its four locks.
 use Rattle.std.specs.Prelude.{◌≡◌, cond, is_ok, Some, None, Err, Option, Result}
-use Rattle.std.specs.Borrow.{Bor, MutBor}
+use Rattle.std.specs.Borrow.{MutBor}
 use Rattle.cache.specs.declared.layer.Cache.{Cache}
 use Rattle.memory.specs.declared.interface.Memory.{Ghosts as MemoryGhosts}
 use Rattle.cache.specs.Layers.{cached}
@@ -31,7 +31,7 @@ Same l l' = (l'.now ≡ l.now) × (l'.ghost_name ≡ l.ghost_name)
 
 module _ {W P R K : Type 0} where
   -- a desk over four locks, none of them chosen
-  pub record DeskOver (a : Bor (Lock (Cache W) R)) (b : Bor (Lock (Cache W) K)) (c : Bor (Lock (Cache P) R)) (e : Bor (Lock (Cache P) K)) (d : Desk W P R K) : Type 0 where
+  pub record DeskOver (a : MutBor (Lock (Cache W) R)) (b : MutBor (Lock (Cache W) K)) (c : MutBor (Lock (Cache P) R)) (e : MutBor (Lock (Cache P) K)) (d : Desk W P R K) : Type 0 where
     pub none : d.chosen ≡ None
     pub first : Same a d.words_ring
     pub second : Same b d.words_masks
