@@ -7,10 +7,12 @@ use lock::locks::Lock;
 use masks::before::Masks;
 use packed::word::Packed;
 use queue::ring::Ring;
-use std::test::*;
+use std::process::Abort;
+use std::test::Fail;
 use words::array::Words;
 
 fn compare<'b, 'a>(
+    rt: &impl Abort,
     input: &[u8],
     listing: &[u8],
     words_ring: &'b mut Lock<'a, Cache<Words>, Ring>,
@@ -24,24 +26,25 @@ fn compare<'b, 'a>(
     let mut rest = listing;
     for _ in 0..70000 {
         let Some(count) = schedule.line_bytes(buffer)? else {
-            assert_eq!(rest.len(), 0);
+            assert_eq!(rt; rest.len(), 0);
             return Ok(());
         };
-        assert!(count <= rest.len() && count <= buffer.len());
-        assert_eq!(&buffer[0..count], &rest[0..count]);
+        assert!(rt; count <= rest.len() && count <= buffer.len());
+        assert_eq!(rt; &buffer[0..count], &rest[0..count]);
         rest = &rest[count..];
     }
     Err(Fail::new("the listing does not end"))
 }
 
 // The schedule has exactly this listing.
-fn lists(input: &[u8], listing: &[u8]) -> Result<(), Fail> {
+fn lists(rt: &impl Abort, input: &[u8], listing: &[u8]) -> Result<(), Fail> {
     let (mut a, mut b, mut c, mut d) = ([0; 16], [0; 16], [0; 16], [0; 16]);
     let mut words_ring = Lock::new(1, Cache::new(Words::new()), Ring::new(), &mut a);
     let mut words_masks = Lock::new(1, Cache::new(Words::new()), Masks::new(), &mut b);
     let mut packed_ring = Lock::new(1, Cache::new(Packed::new()), Ring::new(), &mut c);
     let mut packed_masks = Lock::new(1, Cache::new(Packed::new()), Masks::new(), &mut d);
     compare(
+        rt,
         input,
         listing,
         &mut words_ring,
@@ -54,25 +57,27 @@ fn lists(input: &[u8], listing: &[u8]) -> Result<(), Fail> {
 
 // What follows the letters of O has the same listing on each pair.
 macro_rules! lists_on_each {
-    ($rest:literal, $listing:literal) => {{
-        lists(concat!("O w r ", $rest).as_bytes(), $listing)?;
-        lists(concat!("O w m ", $rest).as_bytes(), $listing)?;
-        lists(concat!("O p r ", $rest).as_bytes(), $listing)?;
-        lists(concat!("O p m ", $rest).as_bytes(), $listing)
+    ($rt:expr, $rest:literal, $listing:literal) => {{
+        lists($rt, concat!("O w r ", $rest).as_bytes(), $listing)?;
+        lists($rt, concat!("O w m ", $rest).as_bytes(), $listing)?;
+        lists($rt, concat!("O p r ", $rest).as_bytes(), $listing)?;
+        lists($rt, concat!("O p m ", $rest).as_bytes(), $listing)
     }};
 }
 
 #[test]
-fn lone_reader() -> Result<(), Fail> {
+fn lone_reader(rt: HostRuntime) -> Result<(), Fail> {
     lists_on_each!(
+        &rt,
         "R\nE 1\nS 1\nS 1\nS 1\nS 1\nS 1\nS 1\nS 1\nS 1\n",
         b"1 ok 1\n2 ok 161 1\n3 ok 170 2\n4 ok 180 3\n5 ok 190 4\n6 ok 200 4\n7 ok 210 5\n8 ok 221 6\n9 ok r 7\n10 no 23\n"
     )
 }
 
 #[test]
-fn lone_writer() -> Result<(), Fail> {
+fn lone_writer(rt: HostRuntime) -> Result<(), Fail> {
     lists_on_each!(
+        &rt,
         "RW\nE 2\nS 2\nS 2\nS 2\nS 2\nS 2\nS 2\nS 2\nS 2\nS 2\nS 2\nS 2\nS 2\nS 2\n",
         b"1 ok 2\n2 ok 2 0\n3 ok 10 0\n4 ok 20 1\n5 ok 30 1\n6 ok 40 2\n7 ok 90 3\n8 ok 100 4\n9 ok 110 4\n10 ok 120 5\n11 ok 130 6\n12 ok 140 7\n13 ok 150 8\n14 ok 60 9\n15 ok w 10\n"
     )
@@ -80,41 +85,46 @@ fn lone_writer() -> Result<(), Fail> {
 
 // The second writer waits at 0.2 until the first has left, and a reader that meets a writer waits at 22.
 #[test]
-fn waiting() -> Result<(), Fail> {
+fn waiting(rt: HostRuntime) -> Result<(), Fail> {
     lists_on_each!(
+        &rt,
         "WWR\nE 1\nE 2\nS 2\nS 1\nS 1\nS 1\nS 1\nS 1\nS 1\nS 1\nS 1\nS 1\nS 1\nS 1\nS 1\nS 1\nE 3\nS 3\nS 3\nS 3\nS 3\nS 3\nS 3\nS 3\n",
         b"1 ok 3\n2 ok 2 0\n3 ok 2 0\n4 ok 2 0\n5 ok 10 0\n6 ok 20 1\n7 ok 30 1\n8 ok 40 2\n9 ok 90 3\n10 ok 100 4\n11 ok 110 4\n12 ok 120 5\n13 ok 130 6\n14 ok 140 7\n15 ok 150 8\n16 ok 60 9\n17 ok w 10\n18 ok 161 1\n19 ok 170 2\n20 ok 180 3\n21 ok 190 4\n22 ok 210 4\n23 ok 220 4\n24 ok 220 5\n25 ok 220 5\n"
     )
 }
 
 #[test]
-fn tasks_on_a_packed_memory() -> Result<(), Fail> {
+fn tasks_on_a_packed_memory(rt: HostRuntime) -> Result<(), Fail> {
     lists(
+        &rt,
         b"O p r RRRRRRRRRRRRRRRR\nO p m RRRRRRRRRRRRRRR\nE 15\n",
         b"1 no 14\n2 ok 15\n3 ok 161 1\n",
     )
 }
 
 #[test]
-fn refusals() -> Result<(), Fail> {
-    lists(b"", b"")?;
-    lists(b"\n\n# \xff\r", b"3 # \xff\r\n")?;
+fn refusals(rt: HostRuntime) -> Result<(), Fail> {
+    lists(&rt, b"", b"")?;
+    lists(&rt, b"\n\n# \xff\r", b"3 # \xff\r\n")?;
     lists(
+        &rt,
         b"E 0\nS 99\nO w r RX\nO p m R\nO w r R\nO w r",
         b"1 no 10\n2 no 10\n3 no 13\n4 ok 1\n5 no 11\n6 no 41\n",
     )?;
     lists(
+        &rt,
         b"O w r R\nE 2\nE 1\nE 1\nS 2\nU 1\nO x r R\n",
         b"1 ok 1\n2 no 20\n3 ok 161 1\n4 no 21\n5 no 20\n6 no 40\n7 no 41\n",
     )?;
     lists(
+        &rt,
         b"E 4294967296\nE 4294967295\nE 00\nE\n",
         b"1 no 42\n2 no 10\n3 no 41\n4 no 41\n",
     )
 }
 
 #[test]
-fn lengths() -> Result<(), Fail> {
-    lists(&[b'\n'; 65536], b"")?;
-    lists(&[b'\n'; 65537], b"0 no 43\n")
+fn lengths(rt: HostRuntime) -> Result<(), Fail> {
+    lists(&rt, &[b'\n'; 65536], b"")?;
+    lists(&rt, &[b'\n'; 65537], b"0 no 43\n")
 }

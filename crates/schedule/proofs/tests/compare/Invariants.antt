@@ -2,4 +2,4 @@ use Rattle.std.proofs.Common.{◌≡◌, length}
 use Rattle.schedule.proofs.tests.compare.Given as goal
 
 abbrev pub invariant-loop : goal.invariant-loop
-invariant-loop l = length l.buffer ≡ length l.initial.buffer
+invariant-loop g l = length l.buffer ≡ length l.initial.buffer
