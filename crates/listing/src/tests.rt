@@ -37,9 +37,9 @@ fn answers(rt: HostRuntime) -> Result<(), Fail> {
 fn just_room(rt: HostRuntime) {
     let mut out = [b'.'; 10];
     assert_eq!(rt; put_note(&mut out, 5, b"# rib 3"), Some(10));
-    assert_eq!(rt; &out[0..10], b"5 # rib 3\n");
+    assert_eq!(rt; &out[0..10], b"5 # rib 3\n".as_slice());
     assert_eq!(rt; put_note(&mut out, 6, b""), Some(3));
-    assert_eq!(rt; &out[0..10], b"6 \n rib 3\n");
+    assert_eq!(rt; &out[0..10], b"6 \n rib 3\n".as_slice());
 }
 
 #[test]
@@ -50,5 +50,5 @@ fn too_little(rt: HostRuntime) {
         put_answer(&mut out, 3, Answer::Moved(Place::At(17), 1)),
         None
     );
-    assert_eq!(rt; &out[0..9], b".........");
+    assert_eq!(rt; &out[0..9], b".........".as_slice());
 }

@@ -210,7 +210,8 @@ fn upgrades_of_an_attempt(rt: HostRuntime) -> Result<(), Fail> {
     }
     assert_eq!(rt; lock.account(1)?.u, 1000);
     assert_eq!(rt; upgrade(&mut lock, 1), 29);
-    assert_eq!(rt; leave_reading(&mut lock, 1), 0);
+    // the pass that came back is still out
+    assert_eq!(rt; leave_reading(&mut lock, 1), 25);
     Ok(())
 }
 

@@ -84,14 +84,14 @@ fn accepted(rt: HostRuntime) {
 #[test]
 fn lines(rt: HostRuntime) {
     let mut reader = Reader::new(b"a\n\nbc");
-    assert_eq!(rt; reader.next_line(), Some(b"a"));
-    assert_eq!(rt; reader.next_line(), Some(b""));
+    assert_eq!(rt; reader.next_line(), Some(b"a".as_slice()));
+    assert_eq!(rt; reader.next_line(), Some(b"".as_slice()));
     assert_eq!(rt; reader.number(), 2);
-    assert_eq!(rt; reader.next_line(), Some(b"bc"));
+    assert_eq!(rt; reader.next_line(), Some(b"bc".as_slice()));
     assert_eq!(rt; reader.next_line(), None);
     assert_eq!(rt; reader.number(), 3);
     let mut reader = Reader::new(b"\n");
-    assert_eq!(rt; reader.next_line(), Some(b""));
+    assert_eq!(rt; reader.next_line(), Some(b"".as_slice()));
     assert_eq!(rt; reader.next_line(), None);
 }
 
