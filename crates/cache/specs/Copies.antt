@@ -1,5 +1,5 @@
 -- Which tasks hold a copy of a cell: a mask, whose bit t - 1 stands for task t, for each of the seven cells.
-use Rattle.std.specs.Prelude.{◌≡◌, ℕ, cond, List, set, Ok, Err, MatchBool, Result, nat_lt, slice_index, slice_set}
+use Rattle.std.specs.Prelude.{◌≡◌, ℕ, cond, List, Ok, Err, MatchBool, Result, nat_lt, slice_index, slice_set}
 use Rattle.memory.specs.declared.refusal.Refusal.{Refusal}
 use Rattle.memory.specs.declared.refusal.Refusal.TheVariants.{Cell}
 use Rattle.memory.specs.declared.operation.Operation.{Operation}

@@ -1,5 +1,5 @@
 -- What a call leaves: a lock as open as before, with as many tasks; where it is refused, all as it was; and a pass that was taken can be laid back.
-use Rattle.std.proofs.Common.{◌≡◌, ℕ, ◌-◌, ◌<◌, ◌≤◌, Bool, true, false, cond, ◌&&◌, eqb, leb, length, get_or, set, Some, None, Ok, Option, sym, refl, ap, ◌∙◌, subst, arith, length-set, get_or-set_same}
+use Rattle.std.proofs.Common.{◌≡◌, ℕ, ◌-◌, Bool, true, false, eqb, leb, length, get_or, Some, None, Ok, Option, sym, refl, ap, ◌∙◌, subst, arith, length-set, get_or-set_same}
 use Rattle.std.proofs.lemmas.Bool.{and_from, leb-true, eq-eqb}
 use Rattle.memory.specs.Calls.{Doing}
 use Rattle.lines.specs.declared.deed.Deed.{Deed}
@@ -15,7 +15,7 @@ use Rattle.calls.specs.Records.{begun, downgrading, fresh, leaving, upgrading, w
 use Rattle.calls.specs.States.{State, record_of, with_record, with_row}
 use Rattle.calls.specs.Questions.{ask, task_refusal, begin_refusal, advance_refusal, take_refusal, pass_refusal, upgrade_refusal, row_refusal, thickness_refusal, is_out, out_for}
 use Rattle.calls.specs.Told.{told}
-use Rattle.calls.specs.Steps.{Answer, done, hands, gives, no, Verdict, refuse, line, at_once, asked, judge, row_answer, Call, begin, advance, take, lay_back, upgrade, downgrade, leave, read, put, deed_refusal, lined, Carried, Calls}
+use Rattle.calls.specs.Steps.{Answer, done, hands, no, Verdict, refuse, line, at_once, asked, judge, row_answer, Call, begin, advance, take, lay_back, upgrade, downgrade, leave, read, put, deed_refusal, lined, Carried, Calls}
 
 -- a question that is not refused is answered
 pub told_all : {A : Type 0} (o : Option Refusal) (x : A) → o ≡ None → told o x ≡ Ok x

@@ -1,6 +1,6 @@
 -- Each call and each line keeps a record sound.
-use Rattle.std.proofs.Common.{◌≡◌, ℕ, ◌+◌, ◌*◌, ◌<◌, ◌≤◌, min, Bool, true, false, cond, ◌&&◌, ◌||◌, T, ltb, leb, Some, None, Option, sym, refl, ap, ◌∙◌, subst, zero-le, arith, lit≤, leb→le}
-use Rattle.std.proofs.lemmas.Bool.{and_parts, and_from, leb-true, le-leb, lt-ltb, ltb-true, cond_both, or_right}
+use Rattle.std.proofs.Common.{◌≡◌, ℕ, ◌+◌, ◌*◌, ◌<◌, ◌≤◌, Bool, true, false, cond, ◌||◌, T, ltb, leb, Some, None, Option, sym, refl, ap, ◌∙◌, zero-le, arith, lit≤, leb→le}
+use Rattle.std.proofs.lemmas.Bool.{and_parts, and_from, leb-true, le-leb, lt-ltb, ltb-true}
 use Rattle.std.proofs.lemmas.Bool.Decides.{nat_tests}
 use Rattle.lines.specs.declared.deed.Found.{Found}
 use Rattle.lines.specs.declared.place.Line.{Line}

@@ -1,7 +1,6 @@
 -- The record of a task: its track through the lines, its account, and the right of the pass that is out to it.
 use Rattle.std.specs.Prelude.{ℕ, ◌+◌, ◌*◌, Bool, true, false, cond, not, ◌&&◌, ◌||◌, Some, None, Option, nat_le, nat_lt}
 use Rattle.lines.specs.declared.deed.Found.{Found}
-use Rattle.lines.specs.declared.place.Line.{Line}
 use Rattle.lines.specs.declared.place.Place.{Place}
 use Rattle.lines.specs.declared.place.Place.TheVariants.{Rest, Inside, Next}
 use Rattle.lines.specs.declared.place.Right.{Right}

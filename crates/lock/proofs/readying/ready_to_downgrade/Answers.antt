@@ -1,4 +1,4 @@
-use Rattle.std.proofs.Common.{◌≡◌, refl, ap, arith, rules}
+use Rattle.std.proofs.Common.{refl, arith, rules}
 use Rattle.lines.specs.declared.place.Right.TheVariants.{Writing}
 use Rattle.calls.specs.Records.{downgrading}
 use Rattle.calls.proofs.Sound.{downgrading_sound, holder}

@@ -1,4 +1,4 @@
-use Rattle.std.proofs.Common.{◌≡◌, refl, rules}
+use Rattle.std.proofs.Common.{refl, rules}
 use Rattle.calls.specs.Records.{leaving}
 use Rattle.calls.proofs.Sound.{leaving_sound}
 use Rattle.lock.proofs.Ready.{ready_as}

@@ -1,4 +1,4 @@
-use Rattle.std.proofs.Common.{ap, ◌∙◌, arith}
+use Rattle.std.proofs.Common.{ap, ◌∙◌}
 use Rattle.calls.specs.Records.{sound}
 use Rattle.calls.proofs.Sound.{room, settled_sound}
 use Rattle.lock.proofs.Settled.{settled_as}
