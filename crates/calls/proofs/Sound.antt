@@ -1,5 +1,5 @@
--- Each call and each line keeps a record sound.
-use Rattle.std.proofs.Common.{◌≡◌, ℕ, ◌+◌, ◌*◌, ◌<◌, ◌≤◌, Bool, true, false, cond, ◌||◌, T, ltb, leb, Some, None, Option, sym, refl, ap, ◌∙◌, zero-le, arith, lit≤, leb→le}
+-- Each call and each line keeps a record in order.
+use Rattle.std.proofs.Common.{◌≡◌, ℕ, ◌+◌, ◌*◌, ◌<◌, ◌≤◌, Bool, true, false, cond, ◌&&◌, ◌||◌, T, ltb, leb, Some, None, Option, sym, refl, ap, ◌∙◌, zero-le, arith, lit≤, leb→le}
 use Rattle.std.proofs.lemmas.Bool.{and_parts, and_from, leb-true, le-leb, lt-ltb, ltb-true}
 use Rattle.std.proofs.lemmas.Bool.Decides.{nat_tests}
 use Rattle.lines.specs.declared.deed.Found.{Found}
@@ -24,30 +24,34 @@ use Rattle.calls.specs.Accounts.{charged}
 use Rattle.calls.specs.declared.refusal.Refusal.{Refusal}
 use Rattle.calls.specs.declared.refusal.Refusal.TheVariants.{Finished, OtherRight, Upgrades}
 use Rattle.calls.specs.Questions.{advance_refusal, advance_refusal_at, begin_refusal, begin_refusal_at, ask, out_for, take_refusal, upgrade_refusal}
-use Rattle.calls.specs.Records.{arrived, begun, changes_fit, downgrading, finishes_fit, fresh, leaving, writing_ahead, ahead_at, ahead_line, pass_fits, rests_at, settled, sound, upgrading, with_out}
+use Rattle.calls.specs.Records.{arrived, begun, changes_fit, downgrading, fresh, leaving, writing_ahead, ahead_at, ahead_line, pass_fits, rests_at, settled, in_order, upgrading, with_out}
 
 -- The parts of what a record keeps.
+
+-- what makes a record sound, at a place and with an account
+abbrev pub finishes_fit : Place → Account → Bool
+finishes_fit p a = leb a.finished 1000000 && ((rests_at p || ltb a.finished 1000000) && leb a.total (a.finished * 4294967295))
 
 pub record Sound (r : Record) : Type 0 where
   pub finishes : finishes_fit r.track.place r.account ≡ true
   pub changes : changes_fit (writing_ahead r.track) r.account ≡ true
   pub pass : pass_fits (right_of r.track) r.out ≡ true
 
-pub parts : (r : Record) → sound r ≡ true → Sound r
-unfolding sound
+pub parts : (r : Record) → in_order r ≡ true → Sound r
+unfolding in_order
 parts r h =
     let first = and_parts _ _ h in
     let others = and_parts _ _ first.1 in
     record { finishes = first.0; changes = others.0; pass = others.1 }
 
-pub whole : (r : Record) → Sound r → sound r ≡ true
-unfolding sound
+pub whole : (r : Record) → Sound r → in_order r ≡ true
+unfolding in_order
 whole r s = and_from _ _ s.finishes (and_from _ _ s.changes s.pass)
 
-pub fresh_sound : (o : Role) → sound (fresh o) ≡ true
-unfolding sound
-fresh_sound Reader = refl
-fresh_sound Writer = refl
+pub fresh_in_order : (o : Role) → in_order (fresh o) ≡ true
+unfolding in_order
+fresh_in_order Reader = refl
+fresh_in_order Writer = refl
 
 -- A line gives nobody a downgrade that was not open to it before.
 
@@ -198,11 +202,11 @@ module _ (r : Record) (l : Line) (at : r.track.place ≡ Next l) (s : Sound r) w
         pass = ap (pass_fits (right_of t)) line_clear;
       }
 
-pub room : (r : Record) → sound r ≡ true → advance_refusal r ≡ None → Room r.account
+pub room : (r : Record) → in_order r ≡ true → advance_refusal r ≡ None → Room r.account
 room r h on = let at = on_line r.track.place on in line_room r at.0 at.1 (parts r h)
 
-pub settled_sound : (r : Record) (f : Found) (share : ℕ) → sound r ≡ true → advance_refusal r ≡ None → sound (settled r f share) ≡ true
-settled_sound r f share h on = let at = on_line r.track.place on in whole (settled r f share) (line_settled r at.0 at.1 (parts r h) f share)
+pub settled_in_order : (r : Record) (f : Found) (share : ℕ) → in_order r ≡ true → advance_refusal r ≡ None → in_order (settled r f share) ≡ true
+settled_in_order r f share h on = let at = on_line r.track.place on in whole (settled r f share) (line_settled r at.0 at.1 (parts r h) f share)
 
 -- A record with its pass out or back.
 
@@ -210,16 +214,16 @@ asked_yes : (b : Bool) (e : Refusal) → ask b e None ≡ None → b ≡ true
 asked_yes true e h = refl
 asked_yes false e h = let z : ◌≡◌ {A = ℕ} 0 1 = cc in absurd (omega arith)
 
-pub back_sound : (r : Record) → sound r ≡ true → sound (with_out r None) ≡ true
-back_sound r h = let s = parts r h in whole (with_out r None) (record { finishes = s.finishes; changes = s.changes; pass = refl })
+pub back_in_order : (r : Record) → in_order r ≡ true → in_order (with_out r None) ≡ true
+back_in_order r h = let s = parts r h in whole (with_out r None) (record { finishes = s.finishes; changes = s.changes; pass = refl })
 
 taken_pass : (has out : Option Right) (w : Right) → take_refusal has out w ≡ None → is_right has w ≡ true
 taken_pass None out w h = let z : ◌≡◌ {A = ℕ} 0 1 = cc in absurd (omega arith)
 taken_pass (Some v) (Some x) w h = let z : ◌≡◌ {A = ℕ} 0 1 = cc in absurd (omega arith)
 taken_pass (Some v) None w h = asked_yes (same_right v w) OtherRight h
 
-pub out_sound : (r : Record) (w : Right) → sound r ≡ true → take_refusal (right_of r.track) r.out w ≡ None → sound (with_out r (Some w)) ≡ true
-out_sound r w h free = let s = parts r h in whole (with_out r (Some w)) (record { finishes = s.finishes; changes = s.changes; pass = taken_pass (right_of r.track) r.out w free })
+pub out_in_order : (r : Record) (w : Right) → in_order r ≡ true → take_refusal (right_of r.track) r.out w ≡ None → in_order (with_out r (Some w)) ≡ true
+out_in_order r w h free = let s = parts r h in whole (with_out r (Some w)) (record { finishes = s.finishes; changes = s.changes; pass = taken_pass (right_of r.track) r.out w free })
 
 -- A record as it stands before the line of a call.
 
@@ -237,8 +241,8 @@ begun_changes : (o : Role) → 0 + weight (ahead_line o (code (begin_line o))) �
 begun_changes Reader = lit≤ tt
 begun_changes Writer = lit≤ tt
 
-pub begun_sound : (r : Record) → sound r ≡ true → begin_refusal r ≡ None → sound (begun r) ≡ true
-begun_sound r h free =
+pub begun_in_order : (r : Record) → in_order r ≡ true → begin_refusal r ≡ None → in_order (begun r) ≡ true
+begun_in_order r h free =
     let s = parts r h in
     let a = r.account in
     let was = at_rest_now r.track.place a.finished free in
@@ -272,7 +276,7 @@ pub record Holder (r : Record) (w : Right) : Type 0 where
   pub room : Room r.account
   pub changes : Changes (same_right w Writing) r.account
 
-pub holder : (r : Record) (w : Right) → sound r ≡ true → out_for r.out w ≡ true → Holder r w
+pub holder : (r : Record) (w : Right) → in_order r ≡ true → out_for r.out w ≡ true → Holder r w
 holder r w h out =
     let s = parts r h in
     let has = has_out (right_of r.track) r.out w s.pass out in
@@ -280,7 +284,7 @@ holder r w h out =
     record { room = running r.track.place r.account s.finishes is.0; changes = changes_of (same_right w Writing) r.account (ap (λ b. changes_fit b r.account) (sym is.1) ∙ s.changes) }
 
 -- a task in the middle of an attempt, with no pass out
-moving : (r : Record) (l : Line) → r.track.place ≡ Next l → r.out ≡ None → Room r.account → Changes (ahead_line r.track.role (code l)) r.account → sound r ≡ true
+moving : (r : Record) (l : Line) → r.track.place ≡ Next l → r.out ≡ None → Room r.account → Changes (ahead_line r.track.role (code l)) r.account → in_order r ≡ true
 moving r l at clear room c =
     whole r (record {
       finishes = ap (λ p. finishes_fit p r.account) at ∙ and_from _ _ (le-leb _ _ (omega (arith, room.few))) (and_from _ _ (lt-ltb _ _ room.few) (le-leb _ _ room.total));
@@ -288,8 +292,8 @@ moving r l at clear room c =
       pass = ap (pass_fits (right_of r.track)) clear;
     })
 
-pub upgrading_sound : (r : Record) → sound r ≡ true → out_for r.out Reading ≡ true → upgrade_refusal r ≡ None → sound (upgrading r) ≡ true
-upgrading_sound r h out few =
+pub upgrading_in_order : (r : Record) → in_order r ≡ true → out_for r.out Reading ≡ true → upgrade_refusal r ≡ None → in_order (upgrading r) ≡ true
+upgrading_in_order r h out few =
     let k = holder r Reading h out in
     let less = ltb-true _ _ (asked_yes (ltb r.account.u 1000) Upgrades few) in
     let w = light (ahead_line r.track.role 271) in
@@ -303,8 +307,8 @@ downgrade_ends Writer Normal = lit≤ tt
 downgrade_ends Writer Upgraded = lit≤ tt
 downgrade_ends Writer Downgraded = lit≤ tt
 
-pub downgrading_sound : (r : Record) → sound r ≡ true → out_for r.out Writing ≡ true → sound (downgrading r) ≡ true
-downgrading_sound r h out =
+pub downgrading_in_order : (r : Record) → in_order r ≡ true → out_for r.out Writing ≡ true → in_order (downgrading r) ≡ true
+downgrading_in_order r h out =
     let k = holder r Writing h out in
     let w = downgrade_ends r.track.role r.track.standing in
     moving (downgrading r) (downgrade_line r.track.standing) refl refl (record { few = k.room.few; total = k.room.total }) (record { upgrades = k.changes.upgrades; downgrades = omega (arith, w, k.changes.downgrades) })
@@ -317,8 +321,8 @@ leave_ends Writer Normal = lit≤ tt
 leave_ends Writer Upgraded = lit≤ tt
 leave_ends Writer Downgraded = lit≤ tt
 
-pub leaving_sound : (r : Record) (w : Right) → sound r ≡ true → out_for r.out w ≡ true → sound (leaving r) ≡ true
-leaving_sound r w h out =
+pub leaving_in_order : (r : Record) (w : Right) → in_order r ≡ true → out_for r.out w ≡ true → in_order (leaving r) ≡ true
+leaving_in_order r w h out =
     let k = holder r w h out in
     let e = leave_ends r.track.role r.track.standing in
     moving (leaving r) (leave_line r.track.role r.track.standing) refl refl k.room (record { upgrades = k.changes.upgrades; downgrades = omega (arith, e, k.changes.downgrades) })

@@ -61,9 +61,9 @@ rests_at Rest = true
 rests_at Inside = false
 rests_at (Next l) = false
 
--- at most 1,000,000 attempts are finished, fewer while one runs, and none cost more than a cost can be
-abbrev pub finishes_fit : Place → Account → Bool
-finishes_fit p a = nat_le a.finished 1000000 && ((rests_at p || nat_lt a.finished 1000000) && nat_le a.total (a.finished * 4294967295))
+-- the account adds up: at most 1,000,000 attempts are finished, fewer while one runs, and none cost more than a cost can be
+abbrev pub sound : Record → Bool
+sound r = nat_le r.account.finished 1000000 && ((rests_at r.track.place || nat_lt r.account.finished 1000000) && nat_le r.account.total (r.account.finished * 4294967295))
 
 -- whether the writing right is ahead of a task on this line without another upgrade: of a writer but on the lines
 -- of downgrade and leave (7, 8, 25.1 to 26.1, 28.1 to 32.1), and of any task on the lines of upgrade
@@ -88,5 +88,6 @@ abbrev pub pass_fits : Option Right → Option Right → Bool
 pass_fits has None = true
 pass_fits has (Some w) = is_right has w
 
-unfoldable pub sound : Record → Bool
-sound r = finishes_fit r.track.place r.account && (changes_fit (writing_ahead r.track) r.account && pass_fits (right_of r.track) r.out)
+-- the record is sound, its changes fit, and so does its pass
+unfoldable pub in_order : Record → Bool
+in_order r = sound r && (changes_fit (writing_ahead r.track) r.account && pass_fits (right_of r.track) r.out)

@@ -3,10 +3,10 @@ use Rattle.std.specs.Prelude.{◌≡◌, true, Some, None, Ok, Err, Option, Resu
 use Rattle.calls.specs.declared.record.Record.{Record}
 use Rattle.calls.specs.declared.refusal.Refusal.{Refusal}
 use Rattle.calls.specs.Questions.{advance_refusal}
-use Rattle.calls.specs.Records.{sound}
+use Rattle.calls.specs.Records.{in_order}
 
 pub record Ready (r : Record) : Type 0 where
-  pub sound : sound r ≡ true
+  pub sound : in_order r ≡ true
   pub on_line : advance_refusal r ≡ None
 
 -- questions were asked, and the record is then ready, and is x

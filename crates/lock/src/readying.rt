@@ -2,7 +2,7 @@
 ghost use Rattle.std.specs.Prelude.{◌≡◌, true};
 ghost use Rattle.lines.specs.declared.place.Right.TheVariants.{Reading as reading, Writing as writing};
 ghost use Rattle.calls.specs.Questions.{advance_refusal, begin_refusal, out_for, upgrade_refusal};
-ghost use Rattle.calls.specs.Records.{begun, downgrading, leaving, sound, upgrading};
+ghost use Rattle.calls.specs.Records.{begun, downgrading, leaving, in_order, upgrading};
 ghost use Rattle.lock.specs.Ready.{Readied, Ready};
 
 use calls::record::Record;
@@ -11,7 +11,7 @@ use lines::place::{Line, Place, Right};
 
 // An attempt begins: line 16 or 0.1. Refused: 21, 22.
 pub(crate) fn ready_to_begin(mut task: Record) -> Result<Record, Refusal>
-    requires { sound task ≡ true }
+    requires { in_order task ≡ true }
     ensures { Readied (begin_refusal task) (begun task) result }
 {
     let Place::Rest = task.track.place else {
@@ -26,7 +26,7 @@ pub(crate) fn ready_to_begin(mut task: Record) -> Result<Record, Refusal>
 
 // The task goes on with its next line. Refused: 23.
 pub(crate) fn ready_to_advance(task: Record) -> Result<Record, Refusal>
-    requires { sound task ≡ true }
+    requires { in_order task ≡ true }
     ensures { Readied (advance_refusal task) task result }
 {
     match task.track.place {
@@ -37,7 +37,7 @@ pub(crate) fn ready_to_advance(task: Record) -> Result<Record, Refusal>
 
 // An upgrade: line 27.1. Refused: 29.
 pub(crate) fn ready_to_upgrade(mut task: Record) -> Result<Record, Refusal>
-    requires sound { sound task ≡ true }
+    requires sound { in_order task ≡ true }
     requires out { out_for task.out reading ≡ true }
     ensures { Readied (upgrade_refusal task) (upgrading task) result }
 {
@@ -52,7 +52,7 @@ pub(crate) fn ready_to_upgrade(mut task: Record) -> Result<Record, Refusal>
 
 // A downgrade: line 25.1 or 28.1.
 pub(crate) fn ready_to_downgrade(mut task: Record) -> Record
-    requires sound { sound task ≡ true }
+    requires sound { in_order task ≡ true }
     requires out { out_for task.out writing ≡ true }
     ensures is { result ≡ downgrading task }
     ensures ready { Ready result }
@@ -65,7 +65,7 @@ pub(crate) fn ready_to_downgrade(mut task: Record) -> Record
 
 // A leave with a pass for this right: line 7, 23, 26.1 or 28.1.
 pub(crate) fn ready_to_leave(mut task: Record, right: Right) -> Record
-    requires sound { sound task ≡ true }
+    requires sound { in_order task ≡ true }
     requires out { out_for task.out right ≡ true }
     ensures is { result ≡ leaving task }
     ensures ready { Ready result }

@@ -2,7 +2,7 @@
 ghost use Rattle.std.specs.Prelude.{◌≡◌, ℕ, ◌≤◌, length, slice_index};
 ghost use Rattle.memory.specs.Cells.{zeros};
 ghost use Rattle.memory.specs.Operations.{after};
-ghost use Rattle.std.proofs.Common.{rules, arith};
+ghost use Rattle.std.proofs.Common.{rules};
 
 use memory::cells::COUNT;
 use memory::interface::{Memory, place};
@@ -36,11 +36,11 @@ impl Memory for Words {
 
     ghost does = { λ s _ op share t. (t.numbers ≡ after op s.numbers) × (share ≡ 1) };
 
-    ghost seven = { first_of (Prim.search rules, Prim.grind (arith, Self.row.coded.inj)) };
+    ghost seven = { Prim.search rules };
 
-    ghost within = { first_of (Prim.search rules, Prim.grind (arith, Self.row.coded.inj)) };
+    ghost within = { Prim.search rules };
 
-    ghost kept = { first_of (Prim.search rules, Prim.grind (arith, Self.row.coded.inj)) };
+    ghost kept = { Prim.search rules };
 
     fn largest() -> u32 {
         Self::LIMIT

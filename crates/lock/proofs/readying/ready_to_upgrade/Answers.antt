@@ -1,7 +1,7 @@
 use Rattle.std.proofs.Common.{◌≡◌, None, refl, rules}
 use Rattle.calls.specs.Questions.{upgrade_refusal}
 use Rattle.calls.specs.Records.{upgrading}
-use Rattle.calls.proofs.Sound.{upgrading_sound}
+use Rattle.calls.proofs.Sound.{upgrading_in_order}
 use Rattle.lock.proofs.Ready.{ready_as}
 use Rattle.lock.proofs.readying.ready_to_upgrade.Goals as goal
 
@@ -9,4 +9,4 @@ pub returns : goal.returns
 returns c =
     let r = c.args.task in
     let asked : upgrade_refusal r ≡ None = search rules in
-    (asked, refl, ready_as (upgrading r) _ refl (upgrading_sound r c.requires.sound c.requires.out asked) refl)
+    (asked, refl, ready_as (upgrading r) _ refl (upgrading_in_order r c.requires.sound c.requires.out asked) refl)

@@ -1,6 +1,6 @@
 use Rattle.std.proofs.Common.{ap, ◌∙◌}
-use Rattle.calls.specs.Records.{sound}
-use Rattle.calls.proofs.Sound.{room, settled_sound}
+use Rattle.calls.specs.Records.{in_order}
+use Rattle.calls.proofs.Sound.{room, settled_in_order}
 use Rattle.lock.proofs.Settled.{settled_as}
 use Rattle.lock.proofs.settling.settle.Goals as goal
 
@@ -15,4 +15,4 @@ returns c =
     let r = c.args.task.now in
     let f = c.args.found in
     let is = settled_as r f c.args.share _ _ _ c.step.ensures c.charge.ensures c.arrive.ensures in
-    record { settled = is; sound = ap sound is ∙ settled_sound r f c.args.share c.requires.sound c.requires.on_line }
+    record { settled = is; sound = ap in_order is ∙ settled_in_order r f c.args.share c.requires.sound c.requires.on_line }
