@@ -1,6 +1,6 @@
 // The calls that move a task by one line.
-ghost use Rattle.std.specs.Prelude.{◌≤◌, length};
-ghost use Rattle.calls.specs.Questions.{task_refusal};
+ghost use Rattle.std.specs.Prelude.{◌<◌, ◌≤◌, length};
+ghost use Rattle.calls.specs.Questions.{advance_refusal, begin_refusal, task_refusal};
 ghost use Rattle.calls.specs.Steps.{advance, begin, line};
 ghost use Rattle.lock.specs.Answers.{Asked, said};
 ghost use Rattle.lock.specs.Ready.{Ready};
@@ -8,12 +8,35 @@ ghost use Rattle.lock.specs.View.{CarriesOut, Does, records_of, view};
 
 use crate::deeds::perform;
 use crate::locks::Lock;
-use crate::readying::{ready_to_advance, ready_to_begin};
 use crate::settling::settle;
 use calls::record::Record;
 use calls::refusal::Refusal;
+use lines::place::Place;
 use memory::interface::Memory;
 use queue::interface::Queue;
+
+// Whether a task with this record may begin.
+fn may_begin(task: &Record) -> Result<(), Refusal>
+    ensures { Asked (begin_refusal task.now) result (task.now.account.finished < 1000000) }
+{
+    let Place::Rest = task.track.place else {
+        return Err(Refusal::Busy);
+    };
+    if task.account.finished >= 1000000 {
+        return Err(Refusal::Finished);
+    }
+    Ok(())
+}
+
+// Whether a task with this record may advance.
+fn may_advance(task: &Record) -> Result<(), Refusal>
+    ensures { Asked (advance_refusal task.now) result (Unit {0}) }
+{
+    match task.track.place {
+        Place::Next(_) => Ok(()),
+        Place::Rest | Place::Inside => Err(Refusal::OffLine),
+    }
+}
 
 impl<'a, M: Memory, Q: Queue> Lock<'a, M, Q> {
     // The questions on the lock and the task.
@@ -48,7 +71,9 @@ impl<'a, M: Memory, Q: Queue> Lock<'a, M, Q> {
         ensures { Does M.Memory Q.Queue (begin task) self.old (said result) self.new }
     {
         self.ask_task(task)?;
-        let ready = ready_to_begin(self.records.get(task))?;
+        let mut ready = self.records.get(task);
+        may_begin(&ready)?;
+        ready.begin();
         self.do_line(task, ready)
     }
 
@@ -57,7 +82,8 @@ impl<'a, M: Memory, Q: Queue> Lock<'a, M, Q> {
         ensures { Does M.Memory Q.Queue (advance task) self.old (said result) self.new }
     {
         self.ask_task(task)?;
-        let ready = ready_to_advance(self.records.get(task))?;
+        let ready = self.records.get(task);
+        may_advance(&ready)?;
         self.do_line(task, ready)
     }
 }
