@@ -1,5 +1,5 @@
 -- Seven fields of four bits in one number, the lowest first.
-use Rattle.std.specs.Prelude.{List, [], ◌∷◌, ℕ, ◌-◌, ◌*◌, ◌/◌, ◌%◌, ◌^◌}
+use Rattle.std.specs.Prelude.{ℕ, ◌-◌, ◌*◌, ◌/◌, ◌%◌, ◌^◌, List, [], ◌∷◌}
 
 abbrev pub field : ℕ → ℕ → ℕ
 field bits i = bits / 2 ^ (4 * i) % 16

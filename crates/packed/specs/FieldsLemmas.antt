@@ -1,8 +1,8 @@
 -- One field of four bits read and replaced, the other six kept, and the bound on each.
-use Rattle.std.specs.Prelude.{◌≡◌, refl, List, [], ◌∷◌, ℕ, zero, suc, ◌*◌, ◌/◌, ◌%◌, ◌^◌, ◌<◌, ◌≤◌, get_or, set}
+use Rattle.std.specs.Prelude.{◌≡◌, ℕ, zero, suc, ◌*◌, ◌/◌, ◌%◌, ◌^◌, ◌<◌, ◌≤◌, List, [], ◌∷◌, bit_and, bit_or, slice_index, slice_set, refl}
 use Rattle.std.proofs.Common.{ap, ◌∙◌, arith}
-use Rattle.std.specs.Int.Bits.{bit_and, bit_or, and_zero_r, or_zero_l, or_zero_r}
 use Rattle.std.proofs.lemmas.Nat.{and_mask, and_shr, or_shr, and_mod, or_mod}
+use Rattle.std.specs.Int.Bits.{and_zero_r, or_zero_l, or_zero_r}
 use Rattle.packed.specs.Fields.{field, fields, spared}
 
 -- what holds at each of seven places
@@ -17,7 +17,7 @@ at_each P a b c d e f g (suc (suc (suc (suc (suc (suc zero)))))) h = g
 at_each P a b c d e f g (suc (suc (suc (suc (suc (suc (suc i))))))) h = absurd (omega arith)
 
 -- no field is above 15
-pub fields_small : (bits k : ℕ) → get_or (fields bits) k 0 ≤ 15
+pub fields_small : (bits k : ℕ) → slice_index (fields bits) k ≤ 15
 fields_small bits zero = omega arith
 fields_small bits (suc zero) = omega arith
 fields_small bits (suc (suc zero)) = omega arith
@@ -28,9 +28,9 @@ fields_small bits (suc (suc (suc (suc (suc (suc zero)))))) = omega arith
 fields_small bits (suc (suc (suc (suc (suc (suc (suc k))))))) = omega arith
 
 -- the field at i, by a shift and a mask
-pub read_field : (bits i : ℕ) → i < 7 → bit_and (bits / 2 ^ (4 * i)) 15 ≡ get_or (fields bits) i 0
+pub read_field : (bits i : ℕ) → i < 7 → bit_and (bits / 2 ^ (4 * i)) 15 ≡ slice_index (fields bits) i
 read_field bits i h =
-    and_mask (bits / 2 ^ (4 * i)) 4 ∙ at_each (λ i. field bits i ≡ get_or (fields bits) i 0) refl refl refl refl refl refl refl i h
+    and_mask (bits / 2 ^ (4 * i)) 4 ∙ at_each (λ i. field bits i ≡ slice_index (fields bits) i) refl refl refl refl refl refl refl i h
 
 -- a field of a masked number with other bits put in
 parts : (bits mask added j : ℕ) → field (bit_or (bit_and bits mask) added) j ≡ bit_or (bit_and (field bits j) (field mask j)) (field added j)
@@ -60,13 +60,13 @@ replaced bits n i = bit_or (bit_and bits (spared i)) (moved n i)
 same_seven : {a b c d e f g a' b' c' d' e' f' g' : ℕ} → a ≡ a' → b ≡ b' → c ≡ c' → d ≡ d' → e ≡ e' → f ≡ f' → g ≡ g' → ◌≡◌ {A = List ℕ} (a ∷ b ∷ c ∷ d ∷ e ∷ f ∷ g ∷ []) (a' ∷ b' ∷ c' ∷ d' ∷ e' ∷ f' ∷ g' ∷ [])
 same_seven p q r s t u v = cc
 
-pub replace_field : (bits n i : ℕ) → n ≤ 15 → i < 7 → fields (replaced bits n i) ≡ set (fields bits) i n
+pub replace_field : (bits n i : ℕ) → n ≤ 15 → i < 7 → fields (replaced bits n i) ≡ slice_set (fields bits) i n
 replace_field bits n i small h =
     let keep : (i j : ℕ) → field (spared i) j ≡ 15 → field (moved n i) j ≡ 0 → field (replaced bits n i) j ≡ field bits j
     = λ i j. stays bits (spared i) (moved n i) j in
     let put : (i : ℕ) → field (spared i) i ≡ 0 → field (moved n i) i ≡ n → field (replaced bits n i) i ≡ n
     = λ i. comes bits (spared i) (moved n i) i n in
-    at_each (λ i. fields (replaced bits n i) ≡ set (fields bits) i n)
+    at_each (λ i. fields (replaced bits n i) ≡ slice_set (fields bits) i n)
     (same_seven (put 0 refl (omega arith)) (keep 0 1 refl (omega arith)) (keep 0 2 refl (omega arith)) (keep 0 3 refl (omega arith)) (keep 0 4 refl (omega arith)) (keep 0 5 refl (omega arith)) (keep 0 6 refl (omega arith)))
     (same_seven (keep 1 0 refl (omega arith)) (put 1 refl (omega arith)) (keep 1 2 refl (omega arith)) (keep 1 3 refl (omega arith)) (keep 1 4 refl (omega arith)) (keep 1 5 refl (omega arith)) (keep 1 6 refl (omega arith)))
     (same_seven (keep 2 0 refl (omega arith)) (keep 2 1 refl (omega arith)) (put 2 refl (omega arith)) (keep 2 3 refl (omega arith)) (keep 2 4 refl (omega arith)) (keep 2 5 refl (omega arith)) (keep 2 6 refl (omega arith)))

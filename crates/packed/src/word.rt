@@ -1,7 +1,7 @@
 // Packed: seven fields of four bits in one 32-bit number, the field of cell 0
 // lowest, each operation at a share of 1. A field is read by a shift and a mask,
 // and replaced under a mask that spares the other six.
-ghost use Rattle.std.specs.Prelude.{◌≡◌, ◌≤◌, ◌<◌, get_or, set};
+ghost use Rattle.std.specs.Prelude.{◌≡◌, ◌<◌, ◌≤◌, slice_index, slice_set};
 ghost use Rattle.memory.specs.Cells.{zeros};
 ghost use Rattle.packed.specs.Fields.{fields, spared};
 ghost use Rattle.memory.specs.Operations.{after};
@@ -22,7 +22,7 @@ const ONES: u32 = 15;
 // The field of a cell.
 fn field_at(bits: u32, cell: u32) -> u32
     requires { cell < 7 }
-    ensures { result ≡ get_or (fields bits) cell 0 }
+    ensures { result ≡ slice_index (fields bits) cell }
 {
     (bits >> (WIDTH * cell)) & ONES
 }
@@ -38,7 +38,7 @@ fn spare_others(cell: u32) -> u32
 // The bits with the field of one cell replaced.
 fn with_field(bits: u32, cell: u32, number: u32) -> u32
     requires { (cell < 7) × (number ≤ 15) }
-    ensures { fields result ≡ set (fields bits) cell number }
+    ensures { fields result ≡ slice_set (fields bits) cell number }
 {
     let others = spare_others(cell);
     (bits & others) | (number << (WIDTH * cell))
