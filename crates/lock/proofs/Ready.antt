@@ -6,4 +6,4 @@ use Rattle.calls.specs.Records.{in_order}
 use Rattle.lock.specs.Ready.{Ready}
 
 pub ready_as : (x r : Record) → r ≡ x → in_order x ≡ true → advance_refusal x ≡ None → Ready r
-ready_as x r is s on = record { sound = ap in_order is ∙ s; on_line = ap advance_refusal is ∙ on }
+ready_as x r is s on = record { ordered = ap in_order is ∙ s; on_line = ap advance_refusal is ∙ on }

@@ -6,7 +6,7 @@ use Rattle.calls.specs.Questions.{advance_refusal}
 use Rattle.calls.specs.Records.{in_order}
 
 pub record Ready (r : Record) : Type 0 where
-  pub sound : in_order r ≡ true
+  pub ordered : in_order r ≡ true
   pub on_line : advance_refusal r ≡ None
 
 -- questions were asked, and the record is then ready, and is x

@@ -1,6 +1,6 @@
 // A task's record read and replaced.
 ghost use Rattle.std.specs.Prelude.{◌≡◌, ◌-◌, ◌≤◌, true, length, slice_set};
-ghost use Rattle.calls.specs.Records.{in_order};
+ghost use Rattle.calls.specs.Records.{in_order, sound};
 ghost use Rattle.lock.specs.View.{records_of, record_at};
 
 use crate::records::Records;
@@ -27,7 +27,8 @@ impl Records {
         requires low { 1 ≤ task }
         requires high { task ≤ length (records_of self.now) }
         ensures is { result ≡ record_at (records_of self.now) task }
-        ensures sound { in_order result ≡ true }
+        ensures sound { sound result ≡ true }
+        ensures ordered { in_order result ≡ true }
     {
         self.all[task as usize - 1]
     }
@@ -36,7 +37,8 @@ impl Records {
     pub(crate) fn put(&mut self, task: u32, new: Record)
         requires low { 1 ≤ task }
         requires high { task ≤ length (records_of self.old) }
-        requires sound { in_order new ≡ true }
+        requires sound { sound new ≡ true }
+        requires ordered { in_order new ≡ true }
         ensures { records_of self.new ≡ slice_set (records_of self.old) (task - 1) new }
     {
         self.all[task as usize - 1] = new;

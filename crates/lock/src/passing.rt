@@ -7,7 +7,6 @@ ghost use Rattle.calls.specs.Steps.{lay_back, take};
 ghost use Rattle.lock.specs.Answers.{Asked, HandedBack, said, spent, taken};
 ghost use Rattle.lock.specs.View.{Does, Takes, record_at, records_of, view};
 
-use crate::ending::end_or_keep;
 use crate::locks::Lock;
 use crate::pass::{Kept, ReadPass, WritePass};
 use calls::record::Record;
@@ -135,8 +134,13 @@ impl<'a, M: Memory, Q: Queue> Lock<'a, M, Q> {
         ensures does { Does M.Memory Q.Queue (lay_back reading pass.lock pass.task) self.old (spent result) self.new }
         ensures back { HandedBack pass result }
     {
-        let made = self.lay_back(Right::Reading, pass.lock, pass.task);
-        end_or_keep(pass, made)
+        match self.lay_back(Right::Reading, pass.lock, pass.task) {
+            Ok(()) => {
+                let ReadPass { lock: _, task: _ } = pass;
+                Ok(())
+            }
+            Err(why) => Err(Kept { pass, why }),
+        }
     }
 
     // Lays a writing pass back. Refused, and the pass comes back: 10, 27, 28.
@@ -144,7 +148,12 @@ impl<'a, M: Memory, Q: Queue> Lock<'a, M, Q> {
         ensures does { Does M.Memory Q.Queue (lay_back writing pass.lock pass.task) self.old (spent result) self.new }
         ensures back { HandedBack pass result }
     {
-        let made = self.lay_back(Right::Writing, pass.lock, pass.task);
-        end_or_keep(pass, made)
+        match self.lay_back(Right::Writing, pass.lock, pass.task) {
+            Ok(()) => {
+                let WritePass { lock: _, task: _ } = pass;
+                Ok(())
+            }
+            Err(why) => Err(Kept { pass, why }),
+        }
     }
 }

@@ -11,7 +11,7 @@ use lines::place::{Line, Place, Right};
 
 // An upgrade: line 27.1. Refused: 29.
 pub(crate) fn ready_to_upgrade(mut task: Record) -> Result<Record, Refusal>
-    requires sound { in_order task ≡ true }
+    requires ordered { in_order task ≡ true }
     requires out { out_for task.out reading ≡ true }
     ensures { Readied (upgrade_refusal task) (upgrading task) result }
 {
@@ -26,7 +26,7 @@ pub(crate) fn ready_to_upgrade(mut task: Record) -> Result<Record, Refusal>
 
 // A downgrade: line 25.1 or 28.1.
 pub(crate) fn ready_to_downgrade(mut task: Record) -> Record
-    requires sound { in_order task ≡ true }
+    requires ordered { in_order task ≡ true }
     requires out { out_for task.out writing ≡ true }
     ensures is { result ≡ downgrading task }
     ensures ready { Ready result }
@@ -39,7 +39,7 @@ pub(crate) fn ready_to_downgrade(mut task: Record) -> Record
 
 // A leave with a pass for this right: line 7, 23, 26.1 or 28.1.
 pub(crate) fn ready_to_leave(mut task: Record, right: Right) -> Record
-    requires sound { in_order task ≡ true }
+    requires ordered { in_order task ≡ true }
     requires out { out_for task.out right ≡ true }
     ensures is { result ≡ leaving task }
     ensures ready { Ready result }

@@ -1,7 +1,7 @@
 // What a line that was done makes of its task's record.
 ghost use Rattle.std.specs.Prelude.{◌≡◌, ◌*◌, ◌<◌, ◌≤◌, true};
 ghost use Rattle.calls.specs.Accounts.{closed};
-ghost use Rattle.calls.specs.Records.{arrived, in_order, settled};
+ghost use Rattle.calls.specs.Records.{arrived, in_order, settled, sound};
 ghost use Rattle.lock.specs.Ready.{Ready};
 
 use calls::account::Account;
@@ -34,7 +34,8 @@ fn arrive(account: &mut Account, place: Place)
 pub(crate) fn settle(task: &mut Record, found: Found, share: u32)
     requires { Ready task.old }
     ensures settled { task.new ≡ settled task.old found share }
-    ensures sound { in_order task.new ≡ true }
+    ensures sound { sound task.new ≡ true }
+    ensures ordered { in_order task.new ≡ true }
 {
     task.track.step(found);
     task.account.charge(share);

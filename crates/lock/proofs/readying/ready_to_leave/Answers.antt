@@ -7,4 +7,4 @@ use Rattle.lock.proofs.readying.ready_to_leave.Goals as goal
 pub returns : goal.returns
 returns c =
     let r = c.args.task in
-    record { is = search rules; ready = ready_as (leaving r) _ (search rules) (leaving_in_order r c.args.right c.requires.sound c.requires.out) refl }
+    record { is = search rules; ready = ready_as (leaving r) _ (search rules) (leaving_in_order r c.args.right c.requires.ordered c.requires.out) refl }

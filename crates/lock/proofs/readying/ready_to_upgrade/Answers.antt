@@ -9,4 +9,4 @@ pub returns : goal.returns
 returns c =
     let r = c.args.task in
     let asked : upgrade_refusal r ≡ None = search rules in
-    (asked, refl, ready_as (upgrading r) _ refl (upgrading_in_order r c.requires.sound c.requires.out asked) refl)
+    (asked, refl, ready_as (upgrading r) _ refl (upgrading_in_order r c.requires.ordered c.requires.out asked) refl)
