@@ -21,11 +21,11 @@ kept_waiting sets who (x ∷ xs) k =
     rw (some, k.1) (in_turn_is sets [] (x ∷ xs) 64 (at_most_64 (x ∷ xs) k.0) k.0 k.2)
 
 -- who waits, how many, and who is the oldest
-holds_waits : (sets : List ℕ) (who : ℕ) (xs : List ℕ) (t : ℕ) → Kept sets who xs → 1 ≤ t → holds who t ≡ waits xs t
-holds_waits sets who xs t k low = ap (λ (w : ℕ). holds w t) k.1 ∙ holds_members xs t k.0 low
+pub kept_waits : (sets : List ℕ) (who : ℕ) (xs : List ℕ) (t : ℕ) → Kept sets who xs → 1 ≤ t → holds who t ≡ waits xs t
+kept_waits sets who xs t k low = ap (λ (w : ℕ). holds w t) k.1 ∙ holds_members xs t k.0 low
 
-pub kept_waits : (sets : List ℕ) (who : ℕ) (xs : List ℕ) (t : ℕ) → Kept sets who xs → 1 ≤ t → t ≤ 64 → contained who t ≡ waits xs t
-kept_waits sets who xs t k low high = contained_task who t low high ∙ holds_waits sets who xs t k low
+pub contained_waits : (sets : List ℕ) (who : ℕ) (xs : List ℕ) (t : ℕ) → Kept sets who xs → 1 ≤ t → t ≤ 64 → contained who t ≡ waits xs t
+contained_waits sets who xs t k low high = contained_task who t low high ∙ kept_waits sets who xs t k low
 
 tally_same : (p q : ℕ → Bool) → ((t : ℕ) → 1 ≤ t → p t ≡ q t) → (n : ℕ) → tally p n ≡ tally q n
 unfolding tally
@@ -38,13 +38,13 @@ count_tally set zero = refl
 count_tally set (suc n) = omega (arith, count_tally set n)
 
 pub kept_length : (sets : List ℕ) (who : ℕ) (xs : List ℕ) → Kept sets who xs → count_to 64 who ≡ length xs
-kept_length sets who xs k = count_tally who 64 ∙ tally_same (holds who) (waits xs) (λ t. holds_waits sets who xs t k) 64 ∙ tally_waiting xs k.0
+kept_length sets who xs k = count_tally who 64 ∙ tally_same (holds who) (waits xs) (λ t. kept_waits sets who xs t k) 64 ∙ tally_waiting xs k.0
 
-holds_oldest : (sets : List ℕ) (who : ℕ) (xs : List ℕ) (t : ℕ) → Kept sets who xs → 1 ≤ t → (holds who t && eqb (set_before sets t) 0) ≡ oldest xs t
-holds_oldest sets who [] t k low = and_left (holds who t) (eqb (set_before sets t) 0) (holds_waits sets who [] t k low)
-holds_oldest sets who (x ∷ xs) t k low =
+pub kept_oldest : (sets : List ℕ) (who : ℕ) (xs : List ℕ) (t : ℕ) → Kept sets who xs → 1 ≤ t → (holds who t && eqb (set_before sets t) 0) ≡ oldest xs t
+kept_oldest sets who [] t k low = and_left (holds who t) (eqb (set_before sets t) 0) (kept_waits sets who [] t k low)
+kept_oldest sets who (x ∷ xs) t k low =
     let p = and_parts (eqb (set_before sets x) 0) (nested sets (x ∷ []) xs) k.2 in
-    let there = holds_waits sets who (x ∷ xs) t k low in
+    let there = kept_waits sets who (x ∷ xs) t k low in
     ⊎_elim
     (λ e.
     let same = eq-eqb x t e in
@@ -57,9 +57,9 @@ holds_oldest sets who (x ∷ xs) t k low =
     (cases_Bool (waits xs t)))
     (cases_eq x t)
 
-pub kept_oldest : (sets : List ℕ) (who : ℕ) (xs : List ℕ) (t : ℕ) → Kept sets who xs → 1 ≤ t → t ≤ 64 → (contained who t && eqb (set_before sets t) 0) ≡ oldest xs t
-kept_oldest sets who xs t k low high =
-    ap (λ (b : Bool). b && eqb (set_before sets t) 0) (contained_task who t low high) ∙ holds_oldest sets who xs t k low
+pub contained_oldest : (sets : List ℕ) (who : ℕ) (xs : List ℕ) (t : ℕ) → Kept sets who xs → 1 ≤ t → t ≤ 64 → (contained who t && eqb (set_before sets t) 0) ≡ oldest xs t
+contained_oldest sets who xs t k low high =
+    ap (λ (b : Bool). b && eqb (set_before sets t) 0) (contained_task who t low high) ∙ kept_oldest sets who xs t k low
 
 -- they are kept for the list with one more, and for the list without the oldest
 kept_push : (sets : List ℕ) (who : ℕ) (xs : List ℕ) (t : ℕ) → length sets ≡ 64 → 1 ≤ t → t ≤ 64 → waits xs t ≡ false → Kept sets who xs → Kept (set sets (t - 1) who) (who + 2 ^ (t - 1)) (xs ++ t ∷ [])
@@ -83,7 +83,7 @@ tells sets who xs k = let e = kept_waiting sets who xs k in (e, subst (Kept sets
 
 pub kept_join : (sets : List ℕ) (who t who' : ℕ) → length sets ≡ 64 → Kept sets who (waiting_of sets who) → 1 ≤ t → t ≤ 64 → waits (waiting_of sets who) t ≡ false → who' ≡ put_in who t → Tells (set sets (t - 1) who) who' (waiting_of sets who ++ t ∷ [])
 kept_join sets who t who' l k low high none e =
-    let sum = e ∙ put_in_task who t low high ∙ joined_sum who t (holds_waits sets who (waiting_of sets who) t k low ∙ none) in
+    let sum = e ∙ put_in_task who t low high ∙ joined_sum who t (kept_waits sets who (waiting_of sets who) t k low ∙ none) in
     tells (set sets (t - 1) who) who' (waiting_of sets who ++ t ∷ []) (subst (λ (w : ℕ). Kept (set sets (t - 1) who) w (waiting_of sets who ++ t ∷ [])) (sym sum) (kept_push sets who (waiting_of sets who) t l low high none k))
 
 pub kept_quit : (sets sets' : List ℕ) (who t who' : ℕ) → length sets ≡ 64 → Kept sets who (waiting_of sets who) → oldest (waiting_of sets who) t ≡ true → sets' ≡ map (λ m. without m t) sets → who' ≡ without who t → Tells sets' who' (rest (waiting_of sets who))

@@ -9,6 +9,7 @@ use queue::ring::Ring;
 use schedule::desk::Desk;
 use schedule::running::ROOM;
 use schedule::schedule::Schedule;
+use std::io;
 use std::io::{Read, Write};
 use words::array::Words;
 
@@ -20,7 +21,7 @@ fn print<'b, 'a>(
     words_masks: &'b mut Lock<'a, Cache<Words>, Masks>,
     packed_ring: &'b mut Lock<'a, Cache<Packed>, Ring>,
     packed_masks: &'b mut Lock<'a, Cache<Packed>, Masks>,
-) -> anyhow::Result<()> {
+) -> io::Result<()> {
     let desk = Desk::new(words_ring, words_masks, packed_ring, packed_masks);
     let mut schedule = Schedule::new(input, desk);
     let mut buffer = [0; ROOM];
@@ -32,7 +33,7 @@ fn print<'b, 'a>(
 }
 
 // One lock for each pair of memory and queue, each over 16 rows that nobody has measured.
-fn run(rt: &HostRuntime) -> anyhow::Result<()> {
+fn run(rt: &HostRuntime) -> io::Result<()> {
     let mut input = Vec::new(rt.alloc());
     rt.stdin().read_to_end(&mut input)?;
     let (mut a, mut b, mut c, mut d) = ([0; 16], [0; 16], [0; 16], [0; 16]);
@@ -50,6 +51,6 @@ fn run(rt: &HostRuntime) -> anyhow::Result<()> {
     )
 }
 
-fn main(rt: HostRuntime) -> anyhow::Result<()> {
+fn main(rt: HostRuntime) -> io::Result<()> {
     run(&rt)
 }

@@ -1,5 +1,5 @@
 // The bits of a set: one asked, put to 1 and put to 0, and how many are 1.
-ghost use Rattle.std.specs.Prelude.{◌≡◌, ◌≤◌};
+ghost use Rattle.std.specs.Prelude.{◌≡◌, ◌+◌, ◌-◌, ◌^◌, ◌≤◌, false};
 ghost use Rattle.sets.specs.Sets.{holds, joined, without, count_to, Joins};
 
 // Whether the task is in the set.
@@ -15,6 +15,7 @@ pub(crate) fn set_bit(set: u64, task: u32) -> u64
     requires { (1 ≤ task) × (task ≤ 64) }
     ensures value { result ≡ joined set task }
     ensures joins { Joins set task result }
+    ensures sum { holds set task ≡ false → result ≡ set + 2 ^ (task - 1) }
 {
     set | (1 << (task - 1))
 }

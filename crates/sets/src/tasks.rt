@@ -1,7 +1,7 @@
 // Sets of tasks, asked with any number: one that is no task's is in no set, and
 // neither put in nor taken out.
-ghost use Rattle.std.specs.Prelude.{◌≡◌, true};
-ghost use Rattle.sets.specs.Sets.{is_task, contained, put_in, taken_out, count_to, Joins};
+ghost use Rattle.std.specs.Prelude.{◌≡◌, ◌+◌, ◌-◌, ◌^◌, true, false};
+ghost use Rattle.sets.specs.Sets.{holds, is_task, contained, put_in, taken_out, count_to, Joins};
 
 use crate::bits::{clear_bit, count_bits, has_bit, set_bit};
 
@@ -23,6 +23,7 @@ pub fn contains(set: u64, task: u32) -> bool
 pub fn with_task(set: u64, task: u32) -> u64
     ensures value { result ≡ put_in set task }
     ensures joins { is_task task ≡ true → Joins set task result }
+    ensures sum { is_task task ≡ true → holds set task ≡ false → result ≡ set + 2 ^ (task - 1) }
 {
     if is_task(task) {
         set_bit(set, task)
