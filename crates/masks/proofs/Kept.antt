@@ -1,10 +1,12 @@
 -- What the sets of a queue tell of the list that they are kept for, and the sets after
 -- a join and after a quit.
-use Rattle.std.proofs.Common.{◌≡◌, ℕ, zero, suc, ◌+◌, ◌-◌, ◌^◌, ◌≤◌, Bool, true, false, ◌&&◌, eqb, List, [], ◌∷◌, ◌++◌, map, length, set, sym, refl, ap, ◌∙◌, subst, ⊎_elim, arith}
+use Rattle.std.proofs.Common.{◌≡◌, ℕ, zero, suc, ◌+◌, ◌-◌, ◌^◌, ◌<◌, ◌≤◌, Bool, true, false, ◌&&◌, eqb, List, [], ◌∷◌, ◌++◌, map, length, set, sym, refl, ap, ◌∙◌, subst, ⊎_elim, arith}
+use lib.Count.{ones}
 use Rattle.std.proofs.lemmas.Nat.{pow_pos}
 use Rattle.std.proofs.lemmas.Bool.{and_parts, and_from, or_left, or_from, eqb-true, eq-eqb, ne_eqb, cases_eq, cases_Bool, both_ways, and_left, and_right}
 use Rattle.queue.specs.Waiting.{waits, oldest, rest}
 use Rattle.sets.specs.Sets.{holds, without, count_to, contained, put_in}
+use Rattle.sets.proofs.Count.{ones_counted}
 use Rattle.sets.proofs.Known.{contained_task, put_in_task}
 use Rattle.sets.proofs.Put.{joined_sum}
 use Rattle.masks.specs.Sets.{set_before, waiting_of, nested, Kept}
@@ -37,8 +39,14 @@ unfolding tally
 count_tally set zero = refl
 count_tally set (suc n) = omega (arith, count_tally set n)
 
-pub kept_length : (sets : List ℕ) (who : ℕ) (xs : List ℕ) → Kept sets who xs → count_to 64 who ≡ length xs
-kept_length sets who xs k = count_tally who 64 ∙ tally_same (holds who) (waits xs) (λ t. kept_waits sets who xs t k) 64 ∙ tally_waiting xs k.0
+pub counted_length : (sets : List ℕ) (who : ℕ) (xs : List ℕ) → Kept sets who xs → count_to 64 who ≡ length xs
+counted_length sets who xs k = count_tally who 64 ∙ tally_same (holds who) (waits xs) (λ t. kept_waits sets who xs t k) 64 ∙ tally_waiting xs k.0
+
+pub ones_tally : (m : ℕ) → m < 2 ^ 64 → ones m ≡ tally (holds m) 64
+ones_tally m fits = ones_counted m fits ∙ count_tally m 64
+
+pub kept_length : (sets : List ℕ) (who : ℕ) (xs : List ℕ) → Kept sets who xs → who < 2 ^ 64 → ones who ≡ length xs
+kept_length sets who xs k fits = ones_counted who fits ∙ counted_length sets who xs k
 
 pub kept_oldest : (sets : List ℕ) (who : ℕ) (xs : List ℕ) (t : ℕ) → Kept sets who xs → 1 ≤ t → (holds who t && eqb (set_before sets t) 0) ≡ oldest xs t
 kept_oldest sets who [] t k low = and_left (holds who t) (eqb (set_before sets t) 0) (kept_waits sets who [] t k low)
@@ -81,10 +89,13 @@ Tells sets who xs = (waiting_of sets who ≡ xs) × Kept sets who (waiting_of se
 tells : (sets : List ℕ) (who : ℕ) (xs : List ℕ) → Kept sets who xs → Tells sets who xs
 tells sets who xs k = let e = kept_waiting sets who xs k in (e, subst (Kept sets who) (sym e) k)
 
-pub kept_join : (sets : List ℕ) (who t who' : ℕ) → length sets ≡ 64 → Kept sets who (waiting_of sets who) → 1 ≤ t → t ≤ 64 → waits (waiting_of sets who) t ≡ false → who' ≡ put_in who t → Tells (set sets (t - 1) who) who' (waiting_of sets who ++ t ∷ [])
+pub kept_join : (sets : List ℕ) (who t who' : ℕ) → length sets ≡ 64 → Kept sets who (waiting_of sets who) → 1 ≤ t → t ≤ 64 → waits (waiting_of sets who) t ≡ false → who' ≡ who + 2 ^ (t - 1) → Tells (set sets (t - 1) who) who' (waiting_of sets who ++ t ∷ [])
 kept_join sets who t who' l k low high none e =
-    let sum = e ∙ put_in_task who t low high ∙ joined_sum who t (kept_waits sets who (waiting_of sets who) t k low ∙ none) in
-    tells (set sets (t - 1) who) who' (waiting_of sets who ++ t ∷ []) (subst (λ (w : ℕ). Kept (set sets (t - 1) who) w (waiting_of sets who ++ t ∷ [])) (sym sum) (kept_push sets who (waiting_of sets who) t l low high none k))
+    tells (set sets (t - 1) who) who' (waiting_of sets who ++ t ∷ []) (subst (λ (w : ℕ). Kept (set sets (t - 1) who) w (waiting_of sets who ++ t ∷ [])) (sym e) (kept_push sets who (waiting_of sets who) t l low high none k))
+
+pub kept_put_in : (sets : List ℕ) (who t who' : ℕ) → length sets ≡ 64 → Kept sets who (waiting_of sets who) → 1 ≤ t → t ≤ 64 → waits (waiting_of sets who) t ≡ false → who' ≡ put_in who t → Tells (set sets (t - 1) who) who' (waiting_of sets who ++ t ∷ [])
+kept_put_in sets who t who' l k low high none e =
+    kept_join sets who t who' l k low high none (e ∙ put_in_task who t low high ∙ joined_sum who t (kept_waits sets who (waiting_of sets who) t k low ∙ none))
 
 pub kept_quit : (sets sets' : List ℕ) (who t who' : ℕ) → length sets ≡ 64 → Kept sets who (waiting_of sets who) → oldest (waiting_of sets who) t ≡ true → sets' ≡ map (λ m. without m t) sets → who' ≡ without who t → Tells sets' who' (rest (waiting_of sets who))
 kept_quit sets sets' who t who' l k o d e =
