@@ -71,6 +71,7 @@ impl<'a, M: Memory, Q: Queue> Lock<'a, M, Q> {
     }
 
     // A pass for this right goes out to the task.
+    #[tactic(auto, using(crate::proofs::Ready::taken_in_order, crate::proofs::Ready::taken_sound))]
     fn take(&mut self, right: Right, task: u32) -> Result<(), Refusal>
         ensures { Takes M.Memory Q.Queue right task self.old result self.new }
     {
