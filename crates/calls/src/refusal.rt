@@ -54,6 +54,7 @@ impl Refusal {
     pub fn number(self) -> u32
         ensures { result ≡ refusal_number self }
     {
+        // one by one, since a refusal from below has a number of its own, and then no other can be a discriminant
         match self {
             Refusal::Memory(why) => why.number(),
             Refusal::Queue(why) => why.number(),

@@ -91,6 +91,7 @@ impl Track {
     }
 
     // The next line was done, and this is what it found. A task that is on no line stays as it is.
+    // The groups go by the published numbers: one match over all 42 lines would be too long to read.
     pub fn step(&mut self, found: Found)
         ensures { self.new ≡ stepped self.old found }
     {

@@ -13,7 +13,8 @@ use Rattle.lines.specs.declared.place.Role.TheVariants.{Reader}
 use Rattle.calls.specs.Records.{fresh, in_order, sound}
 use Rattle.calls.proofs.Sound.{fresh_in_order, sound_of}
 use Rattle.calls.specs.States.{State}
-use Rattle.calls.specs.Opening.{Opens, Wrote, enlisted, opened_to, opening_cells, opening_writes, role_of}
+use Rattle.calls.specs.Opening.{Opens, Wrote, enlisted, opened_to, opening_cells, opening_writes}
+use Rattle.lines.specs.Roles.{role_of}
 use Rattle.lock.proofs.Kept.{pass_set}
 
 -- the records of the first i tasks stand

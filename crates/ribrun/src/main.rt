@@ -13,7 +13,8 @@ use std::io;
 use std::io::{Read, Write};
 use words::array::Words;
 
-// Prints the listing of a schedule, line by line.
+// Prints the listing of a schedule, line by line. The four locks come one by one, since the borrow
+// checker wants all that a desk borrows lent at one lifetime.
 fn print<'b, 'a>(
     rt: &HostRuntime,
     input: &[u8],

@@ -1,7 +1,8 @@
 -- The listing of a schedule, line by line.
-use Rattle.std.specs.Prelude.{◌≡◌, ℕ, ◌+◌, ◌<◌, ◌≤◌, Bool, true, false, cond, not, List, [], ◌∷◌, length, Some, None, Ok, Err, Option, Result, nat_le}
+use Rattle.std.specs.Prelude.{◌≡◌, ℕ, ◌+◌, ◌<◌, ◌≤◌, cond, List, [], ◌∷◌, length, Some, None, Ok, Err, Option, Result, nat_le}
 use Rattle.memory.specs.declared.interface.Memory.{Ghosts as MemoryGhosts}
 use Rattle.queue.specs.declared.interface.Queue.{Ghosts as QueueGhosts}
+use Rattle.script.specs.declared.refusal.Refusal.{Refusal as LineRefusal}
 use Rattle.script.specs.declared.refusal.Refusal.TheVariants.{Room, Length}
 use Rattle.script.specs.Calls.{parse}
 use Rattle.script.specs.Cuts.{lines}
@@ -28,9 +29,9 @@ reply_bytes n (Ok (noting text)) = noted n text
 reply_bytes n (Ok (answering a)) = shown n a
 reply_bytes n (Err e) = refusal_bytes n e
 
--- the one line of an input that is too long
-abbrev pub too_long : List ℕ
-too_long = refusal_bytes 0 (Line Length)
+-- the one line of an input that is refused as a whole
+abbrev pub whole_refused : LineRefusal → List ℕ
+whole_refused e = refusal_bytes 0 (Line e)
 
 module _ {W P R K : Type 0} where
   -- the lines that are still to be done
@@ -41,7 +42,7 @@ module _ {W P R K : Type 0} where
   pub record Begun (input : List ℕ) (desk : Desk W P R K) (s : Schedule W P R K) : Type 0 where
     pub lines_left : left s ≡ cond (nat_le (length input) 65536) (lines input) []
     pub none_done : s.reader.number ≡ 0
-    pub is_long : s.long ≡ not (nat_le (length input) 65536)
+    pub untold : s.untold ≡ cond (nat_le (length input) 65536) None (Some Length)
     pub at_desk : s.desk ≡ desk
 
 module _ {W P R K : Type 0} (w : MemoryGhosts W) (p : MemoryGhosts P) (r : QueueGhosts R) (k : QueueGhosts K) where
@@ -51,35 +52,40 @@ module _ {W P R K : Type 0} (w : MemoryGhosts W) (p : MemoryGhosts P) (r : Queue
     pub reply : Result Heard Refusal
     pub next : left s ≡ text ∷ left t
     pub number : t.reader.number ≡ s.reader.number + 1
-    pub long : t.long ≡ false
+    pub told : t.untold ≡ None
     pub obeyed : Obeyed (DeskTells w p r k) s.desk (parse text) reply t.desk
     pub bytes : TookBytes d (reply_bytes t.reader.number reply) count o
 
-  -- the input is too long, and this is told once
-  pub record ToldLong (s : Schedule W P R K) (d : List ℕ) (count : ℕ) (t : Schedule W P R K) (o : List ℕ) : Type 0 where
-    pub long : t.long ≡ false
+  -- the whole input is refused, and this is told once
+  pub record ToldWhole (e : LineRefusal) (s : Schedule W P R K) (d : List ℕ) (count : ℕ) (t : Schedule W P R K) (o : List ℕ) : Type 0 where
+    pub told : t.untold ≡ None
     pub reader : t.reader ≡ s.reader
     pub desk : t.desk ≡ s.desk
-    pub bytes : TookBytes d too_long count o
+    pub bytes : TookBytes d (whole_refused e) count o
 
   -- no line is left, and nothing changes
   pub record Ended (s : Schedule W P R K) (t : Schedule W P R K) : Type 0 where
     pub none_left : left s ≡ []
-    pub long : t.long ≡ s.long
+    pub untold : t.untold ≡ s.untold
     pub reader : t.reader ≡ s.reader
     pub desk : t.desk ≡ s.desk
 
-  abbrev pub GivesLine : Bool → Schedule W P R K → List ℕ → Option ℕ → Schedule W P R K → List ℕ → Type 0
-  GivesLine true s d None t o = ⊥
-  GivesLine true s d (Some count) t o = ToldLong s d count t o
-  GivesLine false s d None t o = Ended s t × (o ≡ d)
-  GivesLine false s d (Some count) t o = DidLine s d count t o
+  abbrev pub GivesLine : Option LineRefusal → Schedule W P R K → List ℕ → Option ℕ → Schedule W P R K → List ℕ → Type 0
+  GivesLine (Some e) s d None t o = ⊥
+  GivesLine (Some e) s d (Some count) t o = ToldWhole e s d count t o
+  GivesLine None s d None t o = Ended s t × (o ≡ d)
+  GivesLine None s d (Some count) t o = DidLine s d count t o
 
   -- a line's bytes are asked for: the buffer d has the room, or all stays as it was
   abbrev pub Gives : Schedule W P R K → List ℕ → Result (Option ℕ) Refusal → Schedule W P R K → List ℕ → Type 0
-  Gives s d (Ok given) t o = (65552 ≤ length d) × GivesLine s.long s d given t o
+  Gives s d (Ok given) t o = (65552 ≤ length d) × GivesLine s.untold s d given t o
   Gives s d (Err e) t o = (length d < 65552) × (e ≡ Line Room) × (t ≡ s) × (o ≡ d)
+
+-- the line that tells why the whole input is refused
+abbrev pub untold_lines : Option LineRefusal → ℕ
+untold_lines None = 0
+untold_lines (Some e) = 1
 
 -- how many lines of the listing are still to be asked for, blank ones among them
 abbrev pub to_do : {W P R K : Type 0} → Schedule W P R K → ℕ
-to_do s = length (left s) + cond s.long 1 0
+to_do s = length (left s) + untold_lines s.untold

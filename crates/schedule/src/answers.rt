@@ -1,11 +1,10 @@
 // What a call of a schedule answers, over any lock.
 ghost use Rattle.std.specs.Prelude.{◌≡◌};
 ghost use Rattle.calls.specs.Questions.{task_refusal};
-ghost use Rattle.calls.specs.Steps.{begin as line_begin, advance as line_advance};
 ghost use Rattle.calls.specs.Told.{told};
 ghost use Rattle.lock.specs.View.{view};
 ghost use Rattle.script.specs.Calls.{ask};
-ghost use Rattle.schedule.specs.Answers.{Moves, OpensTo, Tells, place_shown, task_shown};
+ghost use Rattle.schedule.specs.Answers.{OpensTo, Tells, place_shown, task_shown};
 
 use calls::refusal::Refusal;
 use lines::place::{Place, Right};
@@ -15,7 +14,7 @@ use memory::interface::Memory;
 use queue::interface::Queue;
 use script::call::Call;
 
-// A task's place as a listing shows it.
+// A task's place as a listing shows it. No `From`, since it takes the place and the right.
 fn shown(place: Place, right: Option<Right>) -> Shown
     ensures { result ≡ place_shown place right }
 {
@@ -37,22 +36,6 @@ fn moved<M: Memory, Q: Queue>(lock: &Lock<'_, M, Q>, task: u32) -> Result<Answer
     Ok(Answer::Moved(shown(place, right), account.cost))
 }
 
-// Begin, and where the task then is.
-fn begin<M: Memory, Q: Queue>(lock: &mut Lock<'_, M, Q>, task: u32) -> Result<Answer, Refusal>
-    ensures { Moves M.Memory Q.Queue (line_begin task) task lock.old result lock.new }
-{
-    lock.begin(task)?;
-    moved(lock, task)
-}
-
-// Advance, and where the task then is.
-fn advance<M: Memory, Q: Queue>(lock: &mut Lock<'_, M, Q>, task: u32) -> Result<Answer, Refusal>
-    ensures { Moves M.Memory Q.Queue (line_advance task) task lock.old result lock.new }
-{
-    lock.advance(task)?;
-    moved(lock, task)
-}
-
 // Open, and how many tasks there then are.
 fn open<M: Memory, Q: Queue>(lock: &mut Lock<'_, M, Q>, roles: &[u8]) -> Result<Answer, Refusal>
     ensures { OpensTo M.Memory Q.Queue roles.now lock.old result lock.new }
@@ -70,7 +53,13 @@ pub(crate) fn answer<M: Memory, Q: Queue>(
 {
     match call {
         Call::Open(_, _, roles) => open(lock, roles),
-        Call::Begin(task) => begin(lock, task),
-        Call::Advance(task) => advance(lock, task),
+        Call::Begin(task) => {
+            lock.begin(task)?;
+            moved(lock, task)
+        }
+        Call::Advance(task) => {
+            lock.advance(task)?;
+            moved(lock, task)
+        }
     }
 }

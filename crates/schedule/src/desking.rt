@@ -43,7 +43,8 @@ impl<'b, 'a, W: Memory, P: Memory, R: Queue, K: Queue> Desk<'b, 'a, W, P, R, K> 
         }
     }
 
-    // Makes the call to the lock of the pair.
+    // Makes the call to the lock of the pair. A match and no `dyn`: the four pairs are all there are, and
+    // the contract speaks of each lock by its types.
     fn answer_at(&mut self, pair: Pair, call: Call<'_>) -> Result<Answer, Refusal>
         ensures { PairTells W.Memory P.Memory R.Queue K.Queue pair self.old (ask call.entry) result self.new }
     {

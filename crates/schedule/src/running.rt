@@ -47,12 +47,12 @@ impl<'s, 'b, 'a, W: Memory, P: Memory, R: Queue, K: Queue> Schedule<'s, 'b, 'a, 
         match fits(input) {
             Ok(()) => Schedule {
                 reader: Reader::new(input),
-                long: false,
+                untold: None,
                 desk,
             },
-            Err(_) => Schedule {
+            Err(why) => Schedule {
                 reader: Reader::new(&[]),
-                long: true,
+                untold: Some(why),
                 desk,
             },
         }
@@ -66,10 +66,9 @@ impl<'s, 'b, 'a, W: Memory, P: Memory, R: Queue, K: Queue> Schedule<'s, 'b, 'a, 
         if out.len() < ROOM {
             return Err(Refusal::Line(script::refusal::Refusal::Room));
         }
-        if self.long {
-            self.long = false;
-            let why = Refusal::Line(script::refusal::Refusal::Length);
-            return Ok(put_refusal(out, 0, why));
+        if let Some(why) = self.untold {
+            self.untold = None;
+            return Ok(put_refusal(out, 0, Refusal::Line(why)));
         }
         let Some(text) = self.reader.next_line() else {
             return Ok(None);

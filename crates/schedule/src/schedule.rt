@@ -4,11 +4,12 @@ ghost use Rattle.std.specs.Prelude.{◌≤◌, length};
 use crate::desk::Desk;
 use script::reader::Reader;
 
-// Of an input that is too long no line is read, and one line of the listing says so.
+// Of an input that is too long no line is read, and one line of the listing tells why.
 #[derive(Drop)]
 pub struct Schedule<'s, 'b, 'a, W, P, R, K> {
     pub(crate) reader: Reader<'s>,
-    pub(crate) long: bool,
+    // why the input is refused as a whole, until a line of the listing has told it
+    pub(crate) untold: Option<script::refusal::Refusal>,
     pub(crate) desk: Desk<'b, 'a, W, P, R, K>,
     ghost short: { length reader.input.now ≤ 65536 },
 }

@@ -1,0 +1,9 @@
+use Rattle.std.proofs.Common.{Ok, ◌∙◌}
+use Rattle.calls.proofs.Obeyed.{advanced_task, told_all}
+use Rattle.schedule.proofs.answers.answer.Goals as goal
+
+-- the task has its place and cost, since an obeyed advance leaves it a task of an open lock
+pub returns-in_ok-advance-in-Advance : goal.returns-in_ok-advance-in-Advance
+returns-in_ok-advance-in-Advance g c =
+    let d = c.in_ok-advance-in-Advance.ensures in
+    rw c.in-Advance.is (Ok tt, d, c.moved-in-Advance.ensures ∙ told_all _ _ (advanced_task g.M.Memory.does g.M.Memory.limit _ _ _ _ c.in-Advance.task d.0))
