@@ -1,5 +1,5 @@
 -- Each call and each line keeps a record in order.
-use Rattle.std.proofs.Common.{◌≡◌, ℕ, ◌+◌, ◌*◌, ◌<◌, ◌≤◌, Bool, true, false, cond, ◌&&◌, ◌||◌, T, ltb, leb, Some, None, Option, sym, refl, ap, ◌∙◌, zero-le, arith, lit≤, leb→le}
+use Rattle.std.proofs.Common.{◌≡◌, ℕ, ◌+◌, ◌*◌, ◌<◌, ◌≤◌, Bool, true, false, cond, ◌||◌, T, ltb, leb, Some, None, Option, sym, refl, ap, ◌∙◌, zero-le, arith, lit≤, leb→le}
 use Rattle.std.proofs.lemmas.Bool.{and_parts, and_from, leb-true, le-leb, lt-ltb, ltb-true}
 use Rattle.std.proofs.lemmas.Bool.Decides.{nat_tests}
 use Rattle.lines.specs.declared.deed.Found.{Found}
@@ -24,13 +24,9 @@ use Rattle.calls.specs.Accounts.{charged}
 use Rattle.calls.specs.declared.refusal.Refusal.{Refusal}
 use Rattle.calls.specs.declared.refusal.Refusal.TheVariants.{Finished, OtherRight, Upgrades}
 use Rattle.calls.specs.Questions.{advance_refusal, advance_refusal_at, begin_refusal, begin_refusal_at, ask, out_for, take_refusal, upgrade_refusal}
-use Rattle.calls.specs.Records.{arrived, begun, changes_fit, downgrading, fresh, leaving, writing_ahead, ahead_at, ahead_line, pass_fits, rests_at, settled, in_order, sound, upgrading, with_out}
+use Rattle.calls.specs.Records.{arrived, begun, changes_fit, downgrading, fresh, leaving, writing_ahead, ahead_at, ahead_line, finishes_fit, pass_fits, rests_at, settled, in_order, sound, upgrading, with_out}
 
 -- The parts of what a record keeps.
-
--- what makes a record sound, at a place and with an account
-abbrev pub finishes_fit : Place → Account → Bool
-finishes_fit p a = leb a.finished 1000000 && ((rests_at p || ltb a.finished 1000000) && leb a.total (a.finished * 4294967295))
 
 pub record Sound (r : Record) : Type 0 where
   pub finishes : finishes_fit r.track.place r.account ≡ true

@@ -1,7 +1,7 @@
 -- The questions before a call, in their order: the first that is answered no gives the refusal.
-use Rattle.std.specs.Prelude.{ℕ, Bool, false, cond, ◌&&◌, length, Some, None, Option, ◌==◌, nat_le, nat_lt}
+use Rattle.std.specs.Prelude.{ℕ, Bool, cond, ◌&&◌, length, Some, None, Option, ◌==◌, nat_le, nat_lt}
 use Rattle.lines.specs.declared.place.Right.{Right}
-use Rattle.lines.specs.Rights.{same_right}
+use Rattle.lines.specs.Rights.{is_right, same_right}
 use Rattle.lines.specs.declared.place.Place.{Place}
 use Rattle.lines.specs.declared.place.Place.TheVariants.{Rest, Inside, Next}
 use Rattle.calls.specs.declared.refusal.Refusal.{Refusal}
@@ -42,8 +42,7 @@ take_refusal (Some v) None w = ask (same_right v w) OtherRight None
 
 -- whether the pass that is out is for this right
 abbrev pub out_for : Option Right → Right → Bool
-out_for None w = false
-out_for (Some v) w = same_right v w
+out_for out w = is_right out w
 
 -- whether such a pass is out to that task
 abbrev pub is_out : State → Right → ℕ → Bool

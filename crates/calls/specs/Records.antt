@@ -61,9 +61,13 @@ rests_at Rest = true
 rests_at Inside = false
 rests_at (Next l) = false
 
--- the account adds up: at most 1,000,000 attempts are finished, fewer while one runs, and none cost more than a cost can be
+-- the account of a task at this place adds up: at most 1,000,000 attempts are finished, fewer while one runs, and none cost
+-- more than a cost can be
+abbrev pub finishes_fit : Place → Account → Bool
+finishes_fit p a = nat_le a.finished 1000000 && ((rests_at p || nat_lt a.finished 1000000) && nat_le a.total (a.finished * 4294967295))
+
 abbrev pub sound : Record → Bool
-sound r = nat_le r.account.finished 1000000 && ((rests_at r.track.place || nat_lt r.account.finished 1000000) && nat_le r.account.total (r.account.finished * 4294967295))
+sound r = finishes_fit r.track.place r.account
 
 -- whether the writing right is ahead of a task on this line without another upgrade: of a writer but on the lines
 -- of downgrade and leave (7, 8, 25.1 to 26.1, 28.1 to 32.1), and of any task on the lines of upgrade
