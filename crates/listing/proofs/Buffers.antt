@@ -1,23 +1,18 @@
--- Bytes laid into a buffer behind those that were laid at its start.
-use Rattle.std.proofs.Common.{◌≡◌, ℕ, ◌<◌, List, [], ◌∷◌, ◌++◌, length, drop, set, sym, refl, append_assoc, add-one, arith, length-append, length-drop}
-use borrow.Rule.Slice.PartMut.{put_mid}
-use Rattle.std.proofs.lemmas.List.{take_at, drop_at, drop-drop, set_split}
+-- The three parts of a line, one behind another in a buffer.
+use Rattle.std.proofs.Common.{◌≡◌, ℕ, ◌+◌, ◌<◌, List, [], ◌∷◌, ◌++◌, length, drop, set, ap, append_assoc, arith, length-append}
+use Rattle.std.proofs.lemmas.List.{drop-drop}
+use Rattle.listing.specs.Answers.{newline}
 use Rattle.listing.specs.Written.{laid}
 
-pub laid_more : (d a b ys : List ℕ) (at k : ℕ) → at ≡ length a → ys ≡ b → k ≡ length b → put_mid at k (laid d a) ys ≡ laid d (a ++ b)
-laid_more d a b ys at k here is many =
-    let front = take_at a (drop (length a) d) at (sym here) in
-    let back = drop_at a (drop (length a) d) at (sym here) in
-    let past = drop-drop k (length a) d in
-    let both = length-append a b in
-    let parts = append_assoc a b (drop (length (a ++ b)) d) in
-    cc
-
-pub laid_one : (d a : List ℕ) (at v : ℕ) → at ≡ length a → at < length d → set (laid d a) at v ≡ laid d (a ++ (v ∷ []))
-laid_one d a at v here room =
-    let inside : at < length (laid d a) = simp (length-append, length-drop) (omega arith) in
-    let parts = set_split (laid d a) at v inside in
-    let past = drop-drop 1 at (laid d a) in
-    let next = add-one at in
-    let more = laid_more d a (v ∷ []) (v ∷ []) at 1 here refl refl in
+-- rest is what stands behind head and text in the buffer d
+pub laid_parts : (d head text rest : List ℕ) → rest ≡ drop (length text) (drop (length head) d) → 0 < length rest → head ++ (text ++ set rest 0 10) ≡ laid d (head ++ text ++ newline)
+laid_parts d head text [] is some = absurd (omega arith)
+laid_parts d head text (x ∷ xs) is some =
+    let line = head ++ text ++ newline in
+    let long : length line ≡ length head + length text + 1 = simp length-append in
+    let behind = drop-drop (length text) (length head) d in
+    let past = drop-drop 1 (length head + length text) d in
+    let back = ap (drop 1) is in
+    let outer = append_assoc (head ++ text) newline (drop (length line) d) in
+    let inner = append_assoc head text (newline ++ drop (length line) d) in
     cc

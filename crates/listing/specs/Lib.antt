@@ -1,4 +1,3 @@
 pub mod Answers
 pub mod Listing
-pub mod Drafts
 pub mod Written

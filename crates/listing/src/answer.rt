@@ -1,4 +1,13 @@
-// What a call of a schedule answers, as far as a listing tells it.
+// What a call of a schedule answers, as far as a listing tells it, and in which text.
+// A number of 32 bits has at most ten digits, so no text has more than 24 bytes.
+//
+// By its contract `write!` may fail even where there is room, and a listing may not:
+// so its texts are put together by `push_str`, and there is no `Display`.
+ghost use Rattle.std.specs.Prelude.{◌≡◌, ◌≤◌, length};
+ghost use Rattle.listing.specs.Answers.{place as placed, told};
+
+use arrayvec::ArrayString;
+use itoa::Buffer;
 
 // Where a task is.
 #[derive(Clone, Copy, PartialEq, Eq, Debug)]
@@ -11,6 +20,21 @@ pub enum Place {
     At(u32),
 }
 
+impl Place {
+    // Its digits, if it has any, are written into `digits`.
+    fn text<'a>(self, digits: &'a mut Buffer) -> &'a str
+        ensures tells { result.now ≡ placed self }
+        ensures short { length result.now ≤ 10 }
+    {
+        match self {
+            Place::Rest => "-",
+            Place::Reading => "r",
+            Place::Writing => "w",
+            Place::At(line) => digits.format(line),
+        }
+    }
+}
+
 #[derive(Clone, Copy, PartialEq, Eq, Debug)]
 pub enum Answer {
     // a lock for so many tasks
@@ -19,4 +43,30 @@ pub enum Answer {
     Moved(Place, u32),
     // the number of the refusal
     Refused(u32),
+}
+
+impl Answer {
+    pub(crate) fn text(self) -> ArrayString<24>
+        ensures { result.bytes ≡ told self }
+    {
+        let mut digits = Buffer::new();
+        let mut text = ArrayString::new();
+        match self {
+            Answer::Opened(tasks) => {
+                text.push_str("ok ");
+                text.push_str(digits.format(tasks));
+            }
+            Answer::Moved(place, cost) => {
+                text.push_str("ok ");
+                text.push_str(place.text(&mut digits));
+                text.push_str(" ");
+                text.push_str(digits.format(cost));
+            }
+            Answer::Refused(why) => {
+                text.push_str("no ");
+                text.push_str(digits.format(why));
+            }
+        }
+        text
+    }
 }

@@ -3,8 +3,6 @@
 #![tactic(auto)]
 
 pub mod answer;
-mod draft;
-mod pieces;
 #[cfg(test)]
 mod tests;
 pub mod write;

@@ -1,12 +1,13 @@
 -- Which fields are numbers, and what they say.
 use Rattle.std.specs.Prelude.{ℕ, ◌+◌, ◌-◌, ◌*◌, Bool, false, cond, ◌&&◌, List, [], ◌∷◌, length, Ok, Err, Result, ◌==◌, nat_le, nat_lt, slice_index}
-use Rattle.std.specs.Str.{all_ascii_digits}
+use Rattle.std.specs.Char.{is_ascii_digit}
+use Rattle.std.specs.List.{list_all}
 use Rattle.script.specs.declared.refusal.Refusal.{Refusal}
 use Rattle.script.specs.declared.refusal.Refusal.TheVariants as why
 
 -- digits, at least one, with no leading zero
 abbrev pub numeral : List ℕ → Bool
-numeral ds = cond (length ds == 0) false (cond (slice_index ds 0 == 48 && nat_lt 1 (length ds)) false (all_ascii_digits ds))
+numeral ds = cond (length ds == 0) false (cond (slice_index ds 0 == 48 && nat_lt 1 (length ds)) false (list_all is_ascii_digit ds))
 
 -- the number that the digits ds say after the number n
 abbrev pub value_after : ℕ → List ℕ → ℕ

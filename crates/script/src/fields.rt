@@ -24,19 +24,15 @@ impl<'a> Fields<'a> {
     fn after(more: &'a [u8]) -> Fields<'a>
         ensures { left result ≡ later_fields more.now }
     {
-        if more.is_empty() {
-            Fields { rest: None }
-        } else {
-            Fields::of(&more[1..])
+        Fields {
+            rest: more.get(1..),
         }
     }
 
     pub(crate) fn next(&mut self) -> Result<&'a [u8], Refusal>
         ensures { Took (left self.old) result (left self.new) }
     {
-        let Some(text) = self.rest else {
-            return Err(Refusal::Fields);
-        };
+        let text = self.rest.ok_or(Refusal::Fields)?;
         let (field, more) = text.split_at(find(text, b' '));
         *self = Fields::after(more);
         Ok(field)

@@ -35,9 +35,7 @@ impl<'a> Reader<'a> {
     pub fn next_line(&mut self) -> Option<&'a [u8]>
         ensures { Handed self.old result self.new }
     {
-        let Some((line, next)) = line_at(self.input, self.at) else {
-            return None;
-        };
+        let (line, next) = line_at(self.input, self.at)?;
         self.at = next;
         self.number += 1;
         Some(line)

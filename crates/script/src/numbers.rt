@@ -11,15 +11,10 @@ use crate::refusal::Refusal;
 fn is_numeral(field: &[u8]) -> bool
     ensures { result ≡ numeral field.now }
 {
-    if field.is_empty() || (field[0] == b'0' && field.len() > 1) {
+    if let [] | [b'0', _, ..] = field {
         return false;
     }
-    for b in field {
-        if !b.is_ascii_digit() {
-            return false;
-        }
-    }
-    true
+    field.iter().all(|b| b.is_ascii_digit())
 }
 
 // The number that the digits of `field` say, if it has at most 32 bits.

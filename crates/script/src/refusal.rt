@@ -8,15 +8,15 @@ ghost use Rattle.script.specs.Refusals.{refusal_number};
 #[derive(Clone, Copy, PartialEq, Eq, Debug)]
 pub enum Refusal {
     // has the output room for 65,552 bytes?
-    Room,
+    Room = 39,
     // is the letter at the front of the line known?
-    Letter,
+    Letter = 40,
     // are the fields right in number and kind?
-    Fields,
+    Fields = 41,
     // is each number at most 4,294,967,295?
-    Number,
+    Number = 42,
     // has the input at most 65,536 bytes?
-    Length,
+    Length = 43,
 }
 
 impl Refusal {
@@ -24,12 +24,6 @@ impl Refusal {
     pub fn number(self) -> u32
         ensures { result ≡ refusal_number self }
     {
-        match self {
-            Refusal::Room => 39,
-            Refusal::Letter => 40,
-            Refusal::Fields => 41,
-            Refusal::Number => 42,
-            Refusal::Length => 43,
-        }
+        self as u32
     }
 }

@@ -9,22 +9,18 @@ pub(crate) fn find(text: &[u8], mark: u8) -> usize
     ensures value { result ≡ before mark text.now }
     ensures within { result ≤ length text.now }
 {
-    let mut i = 0;
-    while i < text.len() && text[i] != mark {
-        i += 1;
-    }
-    i
+    text.iter().take_while(|b| **b != mark).count()
 }
 
 // The line that begins at `at`, and where the next one begins; nothing at the end of the input.
 pub(crate) fn line_at<'a>(input: &'a [u8], at: usize) -> Option<(&'a [u8], usize)>
     ensures { LineAt input.now at result }
 {
-    if at >= input.len() {
+    let rest = input.get(at..)?;
+    if rest.is_empty() {
         return None;
     }
-    let rest = &input[at..];
     let end = find(rest, b'\n');
-    let taken = if end < rest.len() { end + 1 } else { end };
-    Some((&rest[0..end], at + taken))
+    let taken = (end + 1).min(rest.len());
+    Some((&rest[..end], at + taken))
 }

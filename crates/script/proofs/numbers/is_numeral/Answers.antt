@@ -1,16 +1,11 @@
-use Rattle.std.proofs.Common.{arith, rules}
-use Rattle.std.specs.Str.{all_ascii_digits}
-use Rattle.std.proofs.lemmas.List.{at_drop_more, at_drop_all}
+use Rattle.std.proofs.Common.{arith, rules, tests}
+use Rattle.std.specs.Char.{is_ascii_digit}
+use Rattle.std.proofs.lemmas.Bool.Decides.{nat_tests}
+use Rattle.std.proofs.lemmas.Iterator.{YieldsList-from_slice}
+use Rattle.std.proofs.lemmas.Iterator.Search.{all_from_yields_List}
 use Rattle.script.proofs.numbers.is_numeral.Goals as goal
-
-pub returns-then-not-is_ascii_digit : goal.returns-then-not-is_ascii_digit
-returns-then-not-is_ascii_digit c =
-    search (rules, at_drop_more all_ascii_digits c.args.field.now c.loop-b.b-index 0 (omega arith))
-
-pub loop-b-preserved : goal.loop-b-preserved
-loop-b-preserved c =
-    search (rules, at_drop_more all_ascii_digits c.args.field.now c.loop-b.b-index 0 (omega arith))
 
 pub returns : goal.returns
 returns c =
-    search (rules, at_drop_all all_ascii_digits c.args.field.now c.loop-b.b-index (omega arith))
+    let digits = all_from_yields_List is_ascii_digit _ _ c.all.result c.all.ensures.ran (YieldsList-from_slice c.args.field.now cc) (λ x b q k. search (rules, tests)) in
+    grind (arith, nat_tests)

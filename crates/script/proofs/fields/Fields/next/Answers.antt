@@ -3,4 +3,4 @@ use Rattle.script.proofs.Pieces.{first_field}
 use Rattle.script.proofs.fields.Fields.next.Goals as goal
 
 pub returns : goal.returns
-returns c = search (rules, first_field c.in-Some.text.now)
+returns c = search (rules, first_field c.in_ok-text.text.now)
