@@ -9,8 +9,7 @@ ghost use Rattle.cache.specs.Held.{cached_kept};
 ghost use Rattle.std.proofs.Common.{rules};
 
 use crate::copies::Copies;
-use memory::cells::COUNT;
-use memory::interface::{Memory, place};
+use memory::interface::{Memory, known_cell, place};
 use memory::operation::{Reply, Step};
 use memory::refusal::Refusal;
 use sets::tasks::{contains, count, with_task};
@@ -37,9 +36,7 @@ impl<M: Memory> Cache<M> {
     pub fn holders(&self, cell: u32) -> Result<u32, Refusal>
         ensures { result ≡ copies_counted self.now.copies.masks cell }
     {
-        if cell >= COUNT {
-            return Err(Refusal::Cell);
-        }
+        known_cell(cell)?;
         Ok(count(self.copies.masks[cell as usize]))
     }
 }

@@ -1,9 +1,9 @@
--- One field of four bits read and replaced, the other six kept, and the bound on each.
-use Rattle.std.specs.Prelude.{◌≡◌, ℕ, zero, suc, ◌*◌, ◌/◌, ◌%◌, ◌^◌, ◌<◌, ◌≤◌, List, [], ◌∷◌, bit_and, bit_or, slice_index, slice_set, refl}
-use Rattle.std.proofs.Common.{ap, ◌∙◌, arith}
+-- One field of four bits replaced, the other six kept.
+use Rattle.std.proofs.Common.{◌≡◌, ℕ, zero, suc, ◌-◌, ◌*◌, ◌/◌, ◌%◌, ◌^◌, ◌<◌, ◌≤◌, List, [], ◌∷◌, slice_set, refl, ap, ◌∙◌, arith}
+use Rattle.std.specs.Prelude.{bit_and, bit_or}
 use Rattle.std.proofs.lemmas.Nat.{and_mask, and_shr, or_shr, and_mod, or_mod}
 use Rattle.std.specs.Int.Bits.{and_zero_r, or_zero_l, or_zero_r}
-use Rattle.packed.specs.Fields.{field, fields, spared}
+use Rattle.packed.specs.Fields.{field, fields}
 
 -- what holds at each of seven places
 at_each : (P : ℕ → Type 0) → P 0 → P 1 → P 2 → P 3 → P 4 → P 5 → P 6 → (i : ℕ) → i < 7 → P i
@@ -15,22 +15,6 @@ at_each P a b c d e f g (suc (suc (suc (suc zero)))) h = e
 at_each P a b c d e f g (suc (suc (suc (suc (suc zero))))) h = f
 at_each P a b c d e f g (suc (suc (suc (suc (suc (suc zero)))))) h = g
 at_each P a b c d e f g (suc (suc (suc (suc (suc (suc (suc i))))))) h = absurd (omega arith)
-
--- no field is above 15
-pub fields_small : (bits k : ℕ) → slice_index (fields bits) k ≤ 15
-fields_small bits zero = omega arith
-fields_small bits (suc zero) = omega arith
-fields_small bits (suc (suc zero)) = omega arith
-fields_small bits (suc (suc (suc zero))) = omega arith
-fields_small bits (suc (suc (suc (suc zero)))) = omega arith
-fields_small bits (suc (suc (suc (suc (suc zero))))) = omega arith
-fields_small bits (suc (suc (suc (suc (suc (suc zero)))))) = omega arith
-fields_small bits (suc (suc (suc (suc (suc (suc (suc k))))))) = omega arith
-
--- the field at i, by a shift and a mask
-pub read_field : (bits i : ℕ) → i < 7 → bit_and (bits / 2 ^ (4 * i)) 15 ≡ slice_index (fields bits) i
-read_field bits i h =
-    and_mask (bits / 2 ^ (4 * i)) 4 ∙ at_each (λ i. field bits i ≡ slice_index (fields bits) i) refl refl refl refl refl refl refl i h
 
 -- a field of a masked number with other bits put in
 parts : (bits mask added j : ℕ) → field (bit_or (bit_and bits mask) added) j ≡ bit_or (bit_and (field bits j) (field mask j)) (field added j)
@@ -48,6 +32,10 @@ stays bits mask added j p q =
 -- under zeros it is what is put in
 comes : (bits mask added j n : ℕ) → field mask j ≡ 0 → field added j ≡ n → field (bit_or (bit_and bits mask) added) j ≡ n
 comes bits mask added j n p q = parts bits mask added j ∙ rw (p, q, and_zero_r, or_zero_l)
+
+-- 32 ones, less those of a field
+abbrev pub spared : ℕ → ℕ
+spared i = 4294967295 - 15 * 2 ^ (4 * i) % 4294967296
 
 -- a number at the place of a field
 abbrev moved : ℕ → ℕ → ℕ
