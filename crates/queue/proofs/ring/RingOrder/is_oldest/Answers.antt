@@ -2,7 +2,7 @@
 use Rattle.std.proofs.Common.{ℕ, List, sym, ap, arith}
 use Rattle.queue.specs.Waiting.{oldest}
 use Rattle.queue.proofs.Round.{round_first}
-use Rattle.queue.proofs.ring.Ring.is_oldest.Goals as goal
+use Rattle.queue.proofs.ring.RingOrder.is_oldest.Goals as goal
 
 pub returns-then-self-gt0 : goal.returns-then-self-gt0
 returns-then-self-gt0 c =

@@ -2,7 +2,7 @@
 use Rattle.std.proofs.Common.{◌∙◌}
 use Rattle.masks.specs.Sets.{waiting_of}
 use Rattle.masks.proofs.Kept.{counted_length}
-use Rattle.masks.proofs.before.Masks.held.Goals as goal
+use Rattle.masks.proofs.before.MasksOrder.held.Goals as goal
 
 pub returns : goal.returns
 returns c =
