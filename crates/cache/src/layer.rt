@@ -9,11 +9,10 @@ ghost use Rattle.cache.specs.Held.{cached_kept};
 ghost use Rattle.std.proofs.Common.{rules};
 
 use crate::copies::Copies;
-use memory::cells::COUNT;
-use memory::interface::{Memory, place};
+use memory::interface::{Memory, known_cell, place};
 use memory::operation::{Reply, Step};
 use memory::refusal::Refusal;
-use sets::tasks::{contains, count, with_task};
+use sets::tasks::TaskSet;
 
 #[derive(Drop)]
 pub struct Cache<M> {
@@ -29,7 +28,9 @@ impl<M: Memory> Cache<M> {
     {
         Cache {
             below,
-            copies: Copies { masks: [0; 7] },
+            copies: Copies {
+                masks: [TaskSet::new(); 7],
+            },
         }
     }
 
@@ -37,10 +38,8 @@ impl<M: Memory> Cache<M> {
     pub fn holders(&self, cell: u32) -> Result<u32, Refusal>
         ensures { result ≡ copies_counted self.now.copies.masks cell }
     {
-        if cell >= COUNT {
-            return Err(Refusal::Cell);
-        }
-        Ok(count(self.copies.masks[cell as usize]))
+        known_cell(cell)?;
+        Ok(self.copies.masks[cell as usize].count())
     }
 }
 
@@ -78,24 +77,24 @@ impl<M: Memory> Memory for Cache<M> {
     fn read(&mut self, task: u32, cell: u32) -> Result<Reply<u32>, Refusal> {
         place(task, cell)?;
         let held = self.copies.masks[cell as usize];
-        if contains(held, task) {
+        if held.contains(task) {
             let value = self.below.show(cell)?;
             return Ok(Reply { value, share: 0 });
         }
         let reply = self.below.read(task, cell)?;
-        self.copies.masks[cell as usize] = with_task(held, task);
+        self.copies.masks[cell as usize] = held.with(task);
         Ok(reply)
     }
 
     fn write(&mut self, task: u32, cell: u32, number: u32) -> Result<Reply<()>, Refusal> {
         let reply = self.below.write(task, cell, number)?;
-        self.copies.masks[cell as usize] = 0;
+        self.copies.masks[cell as usize] = TaskSet::new();
         Ok(reply)
     }
 
     fn add(&mut self, task: u32, cell: u32, step: Step) -> Result<Reply<u32>, Refusal> {
         let reply = self.below.add(task, cell, step)?;
-        self.copies.masks[cell as usize] = 0;
+        self.copies.masks[cell as usize] = TaskSet::new();
         Ok(reply)
     }
 
@@ -107,7 +106,7 @@ impl<M: Memory> Memory for Cache<M> {
         new: u32,
     ) -> Result<Reply<bool>, Refusal> {
         let reply = self.below.swap(task, cell, expected, new)?;
-        self.copies.masks[cell as usize] = 0;
+        self.copies.masks[cell as usize] = TaskSet::new();
         Ok(reply)
     }
 }

@@ -1,17 +1,15 @@
 -- What the sets of a queue tell of the list that they are kept for, and the sets after
 -- a join and after a quit.
-use Rattle.std.proofs.Common.{◌≡◌, ℕ, zero, suc, ◌+◌, ◌-◌, ◌^◌, ◌<◌, ◌≤◌, Bool, true, false, ◌&&◌, eqb, List, [], ◌∷◌, ◌++◌, map, length, set, sym, refl, ap, ◌∙◌, subst, ⊎_elim, arith}
-use lib.Count.{ones}
+use Rattle.std.proofs.Common.{◌≡◌, ℕ, zero, suc, ◌+◌, ◌-◌, ◌^◌, ◌≤◌, Bool, true, false, ◌&&◌, cond, eqb, List, [], ◌∷◌, ◌++◌, map, length, set, sym, refl, ap, ◌∙◌, subst, ⊎_elim, arith}
 use Rattle.std.proofs.lemmas.Nat.{pow_pos}
-use Rattle.std.proofs.lemmas.Bool.{and_parts, and_from, or_left, or_from, eqb-true, eq-eqb, ne_eqb, cases_eq, cases_Bool, both_ways, and_left, and_right}
+use Rattle.std.proofs.lemmas.Bool.{and_parts, and_from, or_left, or_from, eqb-true, eq-eqb, ne_eqb, cases_eq, cases_Bool, both_ways, and_left, and_right, false_from_ne_true}
 use Rattle.queue.specs.Waiting.{waits, oldest, rest}
-use Rattle.sets.specs.Sets.{holds, without, count_to, contained, put_in}
-use Rattle.sets.proofs.Count.{ones_counted}
-use Rattle.sets.proofs.Known.{contained_task, put_in_task}
+use Rattle.sets.specs.Sets.{holds, without, count_to, is_task, contained, put_in, taken_out}
+use Rattle.sets.proofs.Known.{task_bounds, contained_task, put_in_task}
 use Rattle.sets.proofs.Put.{joined_sum}
 use Rattle.masks.specs.Sets.{set_before, waiting_of, nested, Kept}
 use Rattle.queue.proofs.Distinct.{tally, tally_waiting, at_most_64}
-use Rattle.queue.proofs.Lawful.{oldest_of, lawful_push}
+use Rattle.queue.proofs.Lawful.{oldest_of, waits_task, oldest_task, lawful_push}
 use Rattle.masks.proofs.Members.{holds_members, members_push, without_oldest}
 use Rattle.masks.proofs.Nested.{at_least, in_turn_is, nested_push, nested_rest}
 
@@ -23,11 +21,16 @@ kept_waiting sets who (x ∷ xs) k =
     rw (some, k.1) (in_turn_is sets [] (x ∷ xs) 64 (at_most_64 (x ∷ xs) k.0) k.0 k.2)
 
 -- who waits, how many, and who is the oldest
-pub kept_waits : (sets : List ℕ) (who : ℕ) (xs : List ℕ) (t : ℕ) → Kept sets who xs → 1 ≤ t → holds who t ≡ waits xs t
+kept_waits : (sets : List ℕ) (who : ℕ) (xs : List ℕ) (t : ℕ) → Kept sets who xs → 1 ≤ t → holds who t ≡ waits xs t
 kept_waits sets who xs t k low = ap (λ (w : ℕ). holds w t) k.1 ∙ holds_members xs t k.0 low
 
-pub contained_waits : (sets : List ℕ) (who : ℕ) (xs : List ℕ) (t : ℕ) → Kept sets who xs → 1 ≤ t → t ≤ 64 → contained who t ≡ waits xs t
-contained_waits sets who xs t k low high = contained_task who t low high ∙ kept_waits sets who xs t k low
+-- of any number: one that is no task's is in no set, and does not wait
+pub contained_waits : (sets : List ℕ) (who : ℕ) (xs : List ℕ) (t : ℕ) → Kept sets who xs → contained who t ≡ waits xs t
+contained_waits sets who xs t k =
+    ⊎_elim
+    (λ yes'. let b = task_bounds t yes' in contained_task who t b.0 b.1 ∙ kept_waits sets who xs t k b.0)
+    (λ no'. and_left (is_task t) (holds who t) no' ∙ sym (false_from_ne_true (waits xs t) (λ w. both_ways (is_task t) no' (waits_task xs t k.0 w))))
+    (cases_Bool (is_task t))
 
 tally_same : (p q : ℕ → Bool) → ((t : ℕ) → 1 ≤ t → p t ≡ q t) → (n : ℕ) → tally p n ≡ tally q n
 unfolding tally
@@ -42,13 +45,7 @@ count_tally set (suc n) = omega (arith, count_tally set n)
 pub counted_length : (sets : List ℕ) (who : ℕ) (xs : List ℕ) → Kept sets who xs → count_to 64 who ≡ length xs
 counted_length sets who xs k = count_tally who 64 ∙ tally_same (holds who) (waits xs) (λ t. kept_waits sets who xs t k) 64 ∙ tally_waiting xs k.0
 
-pub ones_tally : (m : ℕ) → m < 2 ^ 64 → ones m ≡ tally (holds m) 64
-ones_tally m fits = ones_counted m fits ∙ count_tally m 64
-
-pub kept_length : (sets : List ℕ) (who : ℕ) (xs : List ℕ) → Kept sets who xs → who < 2 ^ 64 → ones who ≡ length xs
-kept_length sets who xs k fits = ones_counted who fits ∙ counted_length sets who xs k
-
-pub kept_oldest : (sets : List ℕ) (who : ℕ) (xs : List ℕ) (t : ℕ) → Kept sets who xs → 1 ≤ t → (holds who t && eqb (set_before sets t) 0) ≡ oldest xs t
+kept_oldest : (sets : List ℕ) (who : ℕ) (xs : List ℕ) (t : ℕ) → Kept sets who xs → 1 ≤ t → (holds who t && eqb (set_before sets t) 0) ≡ oldest xs t
 kept_oldest sets who [] t k low = and_left (holds who t) (eqb (set_before sets t) 0) (kept_waits sets who [] t k low)
 kept_oldest sets who (x ∷ xs) t k low =
     let p = and_parts (eqb (set_before sets x) 0) (nested sets (x ∷ []) xs) k.2 in
@@ -65,9 +62,12 @@ kept_oldest sets who (x ∷ xs) t k low =
     (cases_Bool (waits xs t)))
     (cases_eq x t)
 
-pub contained_oldest : (sets : List ℕ) (who : ℕ) (xs : List ℕ) (t : ℕ) → Kept sets who xs → 1 ≤ t → t ≤ 64 → (contained who t && eqb (set_before sets t) 0) ≡ oldest xs t
-contained_oldest sets who xs t k low high =
-    ap (λ (b : Bool). b && eqb (set_before sets t) 0) (contained_task who t low high) ∙ kept_oldest sets who xs t k low
+pub contained_oldest : (sets : List ℕ) (who : ℕ) (xs : List ℕ) (t : ℕ) → Kept sets who xs → (contained who t && eqb (set_before sets t) 0) ≡ oldest xs t
+contained_oldest sets who xs t k =
+    ⊎_elim
+    (λ yes'. let b = task_bounds t yes' in ap (λ (c : Bool). c && eqb (set_before sets t) 0) (contained_task who t b.0 b.1) ∙ kept_oldest sets who xs t k b.0)
+    (λ no'. and_left (contained who t) (eqb (set_before sets t) 0) (and_left (is_task t) (holds who t) no') ∙ sym (false_from_ne_true (oldest xs t) (λ w. both_ways (is_task t) no' (oldest_task xs t k.0 w))))
+    (cases_Bool (is_task t))
 
 -- they are kept for the list with one more, and for the list without the oldest
 kept_push : (sets : List ℕ) (who : ℕ) (xs : List ℕ) (t : ℕ) → length sets ≡ 64 → 1 ≤ t → t ≤ 64 → waits xs t ≡ false → Kept sets who xs → Kept (set sets (t - 1) who) (who + 2 ^ (t - 1)) (xs ++ t ∷ [])
@@ -89,7 +89,7 @@ Tells sets who xs = (waiting_of sets who ≡ xs) × Kept sets who (waiting_of se
 tells : (sets : List ℕ) (who : ℕ) (xs : List ℕ) → Kept sets who xs → Tells sets who xs
 tells sets who xs k = let e = kept_waiting sets who xs k in (e, subst (Kept sets who) (sym e) k)
 
-pub kept_join : (sets : List ℕ) (who t who' : ℕ) → length sets ≡ 64 → Kept sets who (waiting_of sets who) → 1 ≤ t → t ≤ 64 → waits (waiting_of sets who) t ≡ false → who' ≡ who + 2 ^ (t - 1) → Tells (set sets (t - 1) who) who' (waiting_of sets who ++ t ∷ [])
+kept_join : (sets : List ℕ) (who t who' : ℕ) → length sets ≡ 64 → Kept sets who (waiting_of sets who) → 1 ≤ t → t ≤ 64 → waits (waiting_of sets who) t ≡ false → who' ≡ who + 2 ^ (t - 1) → Tells (set sets (t - 1) who) who' (waiting_of sets who ++ t ∷ [])
 kept_join sets who t who' l k low high none e =
     tells (set sets (t - 1) who) who' (waiting_of sets who ++ t ∷ []) (subst (λ (w : ℕ). Kept (set sets (t - 1) who) w (waiting_of sets who ++ t ∷ [])) (sym e) (kept_push sets who (waiting_of sets who) t l low high none k))
 
@@ -97,8 +97,10 @@ pub kept_put_in : (sets : List ℕ) (who t who' : ℕ) → length sets ≡ 64 �
 kept_put_in sets who t who' l k low high none e =
     kept_join sets who t who' l k low high none (e ∙ put_in_task who t low high ∙ joined_sum who t (kept_waits sets who (waiting_of sets who) t k low ∙ none))
 
-pub kept_quit : (sets sets' : List ℕ) (who t who' : ℕ) → length sets ≡ 64 → Kept sets who (waiting_of sets who) → oldest (waiting_of sets who) t ≡ true → sets' ≡ map (λ m. without m t) sets → who' ≡ without who t → Tells sets' who' (rest (waiting_of sets who))
+pub kept_quit : (sets sets' : List ℕ) (who t who' : ℕ) → length sets ≡ 64 → Kept sets who (waiting_of sets who) → oldest (waiting_of sets who) t ≡ true → sets' ≡ map (λ m. taken_out m t) sets → who' ≡ taken_out who t → Tells sets' who' (rest (waiting_of sets who))
 kept_quit sets sets' who t who' l k o d e =
     let r = rest (waiting_of sets who) in
-    let q = kept_rest sets who (waiting_of sets who) t l k o in
-    tells sets' who' r (subst (λ (w : ℕ). Kept sets' w r) (sym e) (subst (λ (ms : List ℕ). Kept ms (without who t) r) (sym d) q))
+    let task : is_task t ≡ true = oldest_task (waiting_of sets who) t k.0 o in
+    let q : Kept (map (λ m. taken_out m t) sets) (taken_out who t) r =
+    subst (λ (b : Bool). Kept (map (λ m. cond b (without m t) m) sets) (cond b (without who t) who) r) (sym task) (kept_rest sets who (waiting_of sets who) t l k o) in
+    tells sets' who' r (subst (λ (w : ℕ). Kept sets' w r) (sym e) (subst (λ (ms : List ℕ). Kept ms (taken_out who t) r) (sym d) q))

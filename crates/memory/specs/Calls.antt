@@ -24,6 +24,10 @@ Called limit cells top does s t task op v (Err e) = (refusal limit task op (cell
 abbrev pub cell_shown : List ℕ → ℕ → Result ℕ Refusal
 cell_shown xs c = cond (nat_lt c 7) (Ok (slice_index xs c)) (Err Cell)
 
+-- the question on the cell alone
+abbrev pub known_cell : ℕ → Result (Unit {0}) Refusal
+known_cell cell = cond (nat_lt cell 7) (Ok tt) (Err Cell)
+
 -- the questions on the task and the cell alone
 abbrev pub placed : ℕ → ℕ → Result (Unit {0}) Refusal
-placed task cell = cond (nat_le 1 task) (cond (nat_le task 64) (cond (nat_lt cell 7) (Ok tt) (Err Cell)) (Err Task)) (Err Task)
+placed task cell = cond (nat_le 1 task) (cond (nat_le task 64) (known_cell cell) (Err Task)) (Err Task)

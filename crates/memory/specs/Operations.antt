@@ -38,6 +38,10 @@ abbrev pub stays : ℕ → Step → ℕ → Bool
 stays limit Up n = nat_lt n limit
 stays limit Down n = nat_lt 0 n
 
+-- the number after a step from n, if it stays
+abbrev pub step_taken : ℕ → Step → ℕ → Option ℕ
+step_taken limit s n = cond (stays limit s n) (Some (stepped s n)) None
+
 -- the questions on numbers
 abbrev pub number_refusal : ℕ → Operation → List ℕ → Option Refusal
 number_refusal limit (Read c) xs = None

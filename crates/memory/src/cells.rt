@@ -1,4 +1,5 @@
-// The seven cells by name.
+// The seven cells by name. They are numbers and no enum, since the interface
+// takes any number for a cell and refuses those above 6.
 
 // how many tasks are counted
 pub const C: u32 = 0;

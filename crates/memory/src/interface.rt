@@ -7,7 +7,7 @@
 ghost use Rattle.std.specs.Prelude.{◌≡◌, ℕ, ◌≤◌, List, length, ◌==◌, slice_index};
 ghost use Rattle.memory.specs.declared.operation.Operation.{Operation as Op};
 ghost use Rattle.memory.specs.declared.operation.Operation.TheVariants.{Read as reading, Write as writing, Add as adding, Swap as swapping};
-ghost use Rattle.memory.specs.Calls.{Called, Doing, Kept, placed, cell_shown};
+ghost use Rattle.memory.specs.Calls.{Called, Doing, Kept, known_cell, placed, cell_shown};
 
 use crate::cells::COUNT;
 use crate::operation::{Reply, Step};
@@ -70,6 +70,16 @@ pub trait Memory {
     ghost kept: { (s t : Self) (task : ℕ) (op : Op) (share : ℕ) → does s task op share t → Kept cells top s op share t };
 }
 
+// The question on the cell.
+pub fn known_cell(cell: u32) -> Result<(), Refusal>
+    ensures { result ≡ known_cell cell }
+{
+    if cell >= COUNT {
+        return Err(Refusal::Cell);
+    }
+    Ok(())
+}
+
 // The questions on the task and the cell, which all four operations ask first.
 pub fn place(task: u32, cell: u32) -> Result<(), Refusal>
     ensures { result ≡ placed task cell }
@@ -77,8 +87,5 @@ pub fn place(task: u32, cell: u32) -> Result<(), Refusal>
     if task < 1 || task > 64 {
         return Err(Refusal::Task);
     }
-    if cell >= COUNT {
-        return Err(Refusal::Cell);
-    }
-    Ok(())
+    known_cell(cell)
 }

@@ -5,13 +5,13 @@ ghost use Rattle.memory.specs.Refusals.{refusal_number};
 #[derive(Clone, Copy, PartialEq, Eq, Debug)]
 pub enum Refusal {
     // is the task from 1 to 64?
-    Task,
+    Task = 1,
     // is the cell from 0 to 6?
-    Cell,
+    Cell = 2,
     // is each number given at most the limit?
-    Number,
+    Number = 3,
     // does the sum stay from 0 to the limit?
-    Sum,
+    Sum = 4,
 }
 
 impl Refusal {
@@ -19,11 +19,6 @@ impl Refusal {
     pub fn number(self) -> u32
         ensures { result ≡ refusal_number self }
     {
-        match self {
-            Refusal::Task => 1,
-            Refusal::Cell => 2,
-            Refusal::Number => 3,
-            Refusal::Sum => 4,
-        }
+        self as u32
     }
 }

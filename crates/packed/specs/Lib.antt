@@ -1,2 +1,2 @@
 pub mod Fields
-pub mod FieldsLemmas
+pub mod Small

@@ -1,8 +1,8 @@
 -- A lawful list: what its test says of the oldest and of those behind it, and that
 -- it stays lawful where the oldest quits and where a task joins that does not wait.
-use Rattle.std.proofs.Common.{◌≡◌, ℕ, ◌≤◌, true, false, not, ◌&&◌, eqb, leb, List, [], ◌∷◌, ◌++◌, sym, refl}
-use Rattle.std.proofs.lemmas.Bool.{and_parts, and_from, or_parts, or_from, not-true, not_from_false, leb-true, le-leb, eqb-false, ne_eqb}
-use Rattle.queue.specs.Waiting.{waits, rest, lawful}
+use Rattle.std.proofs.Common.{◌≡◌, ℕ, ◌≤◌, true, false, not, ◌&&◌, eqb, leb, List, [], ◌∷◌, ◌++◌, sym, refl, ⊎_elim, arith}
+use Rattle.std.proofs.lemmas.Bool.{and_parts, and_from, or_parts, or_from, or_left, or_cases, both_ways, not-true, not_from_false, leb-true, le-leb, eqb-true, eqb-false, ne_eqb}
+use Rattle.queue.specs.Waiting.{waits, oldest, rest, lawful}
 
 -- the oldest is a task that does not wait again behind itself
 pub record Oldest (x : ℕ) (xs : List ℕ) : Type 0 where
@@ -27,6 +27,21 @@ lawful_from x xs o =
 pub lawful_rest : (xs : List ℕ) → lawful xs ≡ true → lawful (rest xs) ≡ true
 lawful_rest [] h = h
 lawful_rest (x ∷ xs) h = (oldest_of x xs h).behind
+
+-- who waits is a task
+pub waits_task : (xs : List ℕ) (t : ℕ) → lawful xs ≡ true → waits xs t ≡ true → (leb 1 t && leb t 64) ≡ true
+waits_task [] t h w = absurd (both_ways false refl w)
+waits_task (x ∷ xs) t h w =
+    let o = oldest_of x xs h in
+    ⊎_elim
+    (λ e. let same = eqb-true x t e in and_from (leb 1 t) (leb t 64) (le-leb 1 t (omega arith)) (le-leb t 64 (omega arith)))
+    (waits_task xs t o.behind)
+    (or_cases (eqb x t) (waits xs t) w)
+
+-- and so is the oldest
+pub oldest_task : (xs : List ℕ) (t : ℕ) → lawful xs ≡ true → oldest xs t ≡ true → (leb 1 t && leb t 64) ≡ true
+oldest_task [] t h w = absurd (both_ways false refl w)
+oldest_task (x ∷ xs) t h w = waits_task (x ∷ xs) t h (or_left (eqb x t) (waits xs t) w)
 
 -- who does not wait, does not wait either once another has joined
 not_in_push : (xs : List ℕ) (t x : ℕ) → waits xs x ≡ false → eqb t x ≡ false → waits (xs ++ t ∷ []) x ≡ false

@@ -1,8 +1,10 @@
 -- A ring of 64 places: its first, those behind it, one more at its end, and how many.
 -- While fewer than 64 stand in it, the place behind the last is none of theirs.
-use Rattle.std.proofs.Common.{◌≡◌, ℕ, zero, suc, ◌+◌, ◌-◌, ◌%◌, ◌<◌, ◌≤◌, true, false, ◌≢◌, List, [], ◌∷◌, ◌++◌, length, get_or, set, refl, ap, ◌∙◌, add-one, arith}
+use Rattle.std.proofs.Common.{◌≡◌, ℕ, zero, suc, ◌+◌, ◌-◌, ◌%◌, ◌<◌, ◌≤◌, Bool, true, false, ◌||◌, eqb, ◌≢◌, List, [], ◌∷◌, ◌++◌, length, get_or, set, refl, ap, ◌∙◌, add-one, arith}
+use Rattle.std.specs.List.{list_any, range_with_len}
+use Rattle.std.proofs.lemmas.Bool.{both_ways}
 use Rattle.std.proofs.lemmas.List.{get_or-set_same, get_or-set_other}
-use Rattle.queue.specs.Waiting.{waits, rest, lawful}
+use Rattle.queue.specs.Waiting.{waits, oldest, rest, lawful}
 use Rattle.queue.specs.Round.{round}
 use Rattle.queue.proofs.Lawful.{lawful_push}
 use Rattle.queue.proofs.Distinct.{room}
@@ -38,9 +40,14 @@ round_join xs v i n l h w low high none =
     let e : round (set xs ((i + n) % 64) v) i (n + 1) ≡ round xs i n ++ v ∷ [] = rw add-one (round_push xs v i n ((i + n) % 64) l h less refl) in
     (less, e, ap lawful e ∙ lawful_push (round xs i n) v w low high none)
 
--- the place k behind the first, and those after it
-pub round_next : (xs : List ℕ) (i n k : ℕ) → k < n → round xs ((i + k) % 64) (n - k) ≡ get_or xs ((i + k) % 64) 0 ∷ round xs ((i + (k + 1)) % 64) (n - (k + 1))
-round_next xs i n k h =
-    let place : ((i + k) % 64 + 1) % 64 ≡ (i + (k + 1)) % 64 = omega arith in
-    let left : n - k - 1 ≡ n - (k + 1) = omega arith in
-    round_first xs ((i + k) % 64) (n - k) (omega arith) ∙ rw (place, left)
+-- a task waits if it stands at one of the places
+pub round_waits : (xs : List ℕ) (i n t a : ℕ) → list_any (λ k. eqb (get_or xs ((i + k) % 64) 0) t) (range_with_len a n) ≡ waits (round xs ((i + a) % 64) n) t
+round_waits xs i zero t a = refl
+round_waits xs i (suc n) t a =
+    let next : ((i + a) % 64 + 1) % 64 ≡ (i + (a + 1)) % 64 = omega arith in
+    rw next (ap (λ (b : Bool). eqb (get_or xs ((i + a) % 64) 0) t || b) (round_waits xs i n t (a + 1)))
+
+-- who stands first is the oldest, so that some stand in the ring
+pub some_stand : (xs : List ℕ) (i n t : ℕ) → oldest (round xs i n) t ≡ true → 0 < n
+some_stand xs i zero t h = absurd (both_ways false refl h)
+some_stand xs i (suc n) t h = omega arith

@@ -5,11 +5,11 @@ ghost use Rattle.queue.specs.Refusals.{refusal_number};
 #[derive(Clone, Copy, PartialEq, Eq, Debug)]
 pub enum Refusal {
     // is the task from 1 to 64?
-    Task,
+    Task = 1,
     // to join: is the task not yet waiting?
-    Waiting,
+    Waiting = 5,
     // to quit: is the task the oldest?
-    NotOldest,
+    NotOldest = 6,
 }
 
 impl Refusal {
@@ -17,10 +17,6 @@ impl Refusal {
     pub fn number(self) -> u32
         ensures { result ≡ refusal_number self }
     {
-        match self {
-            Refusal::Task => 1,
-            Refusal::Waiting => 5,
-            Refusal::NotOldest => 6,
-        }
+        self as u32
     }
 }

@@ -3,3 +3,4 @@ pub mod Put
 pub mod Taken
 pub mod Count
 pub mod Known
+pub mod Bit

@@ -26,6 +26,10 @@ count_to (suc n) set = count_to n set + cond (holds set (suc n)) 1 0
 abbrev pub is_task : ℕ → Bool
 is_task t = nat_le 1 t && nat_le t 64
 
+-- the number of the set of one task, 0 where the number is no task's
+abbrev pub bit : ℕ → ℕ
+bit t = cond (is_task t) (2 ^ (t - 1)) 0
+
 -- the same three of any number: one that is no task's is in no set, and neither put in nor taken out
 abbrev pub contained : ℕ → ℕ → Bool
 contained set t = is_task t && holds set t

@@ -1,7 +1,0 @@
--- The list has as many numbers as are read.
-use Rattle.std.proofs.Common.{sym}
-use Rattle.queue.proofs.Round.{length_round}
-use Rattle.queue.proofs.ring.Ring.held.Goals as goal
-
-pub returns : goal.returns
-returns c = sym (length_round c.args.self.now.numbers c.args.self.now.start c.args.self.now.count)
