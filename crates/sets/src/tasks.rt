@@ -20,6 +20,15 @@ impl Model for TaskSet {
     ghost inverse = { λ n. record { bits = n } };
 }
 
+// The set whose bits are those of the number.
+impl From<u64> for TaskSet {
+    ghost from_gives = { λ bits set. set ≡ bits };
+
+    fn from(bits: u64) -> TaskSet {
+        TaskSet { bits }
+    }
+}
+
 // The bit of the task, none where the number is no task's.
 fn bit(task: u32) -> u64
     ensures { result ≡ bit task }
