@@ -39,7 +39,7 @@ comes : (bits mask added j n : ℕ) → field mask j ≡ 0 → field added j ≡
 comes bits mask added j n p q = parts bits mask added j ∙ rw (p, q, and_zero_r, or_zero_l)
 
 -- 32 ones, less those of a field
-abbrev pub spared : ℕ → ℕ
+abbrev spared : ℕ → ℕ
 spared i = 4294967295 - 15 * 2 ^ (4 * i) % 4294967296
 
 -- a number at the place of a field

@@ -1,8 +1,8 @@
--- A lawful list: what its test says of the oldest and of those behind it, and that
--- it stays lawful where the oldest quits and where a task joins that does not wait.
+-- A lawful list: what its test says of the oldest and of those behind it, that only
+-- tasks wait in it, and that it stays lawful where a task joins that does not wait.
 use Rattle.std.proofs.Common.{◌≡◌, ℕ, ◌≤◌, true, false, not, ◌&&◌, eqb, leb, List, [], ◌∷◌, ◌++◌, sym, refl, ⊎_elim, arith}
 use Rattle.std.proofs.lemmas.Bool.{and_parts, and_from, or_parts, or_from, or_left, or_cases, both_ways, not-true, not_from_false, leb-true, le-leb, eqb-true, eqb-false, ne_eqb}
-use Rattle.queue.specs.Waiting.{waits, oldest, rest, lawful}
+use Rattle.queue.specs.Waiting.{waits, oldest, lawful}
 
 -- the oldest is a task that does not wait again behind itself
 pub record Oldest (x : ℕ) (xs : List ℕ) : Type 0 where
@@ -23,10 +23,6 @@ lawful_from x xs o =
     and_from (leb 1 x && leb x 64) (not (waits xs x) && lawful xs)
     (and_from (leb 1 x) (leb x 64) (le-leb 1 x o.low) (le-leb x 64 o.high))
     (and_from (not (waits xs x)) (lawful xs) (not_from_false (waits xs x) o.once) o.behind)
-
-pub lawful_rest : (xs : List ℕ) → lawful xs ≡ true → lawful (rest xs) ≡ true
-lawful_rest [] h = h
-lawful_rest (x ∷ xs) h = (oldest_of x xs h).behind
 
 -- who waits is a task
 pub waits_task : (xs : List ℕ) (t : ℕ) → lawful xs ≡ true → waits xs t ≡ true → (leb 1 t && leb t 64) ≡ true

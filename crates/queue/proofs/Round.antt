@@ -1,10 +1,9 @@
--- A ring of 64 places: its first, those behind it, one more at its end, and how many.
--- While fewer than 64 stand in it, the place behind the last is none of theirs.
-use Rattle.std.proofs.Common.{◌≡◌, ℕ, zero, suc, ◌+◌, ◌-◌, ◌%◌, ◌<◌, ◌≤◌, Bool, true, false, ◌||◌, eqb, ◌≢◌, List, [], ◌∷◌, ◌++◌, length, get_or, set, refl, ap, ◌∙◌, add-one, arith}
+-- A ring of 64 places: how many stand in it, who waits, and one more at its end. While
+-- fewer than 64 stand in it, the place behind the last is none of theirs.
+use Rattle.std.proofs.Common.{◌≡◌, ℕ, zero, suc, ◌+◌, ◌%◌, ◌<◌, ◌≤◌, Bool, true, false, ◌||◌, eqb, ◌≢◌, List, [], ◌∷◌, ◌++◌, length, get_or, set, refl, ap, ◌∙◌, add-one, arith}
 use Rattle.std.specs.List.{list_any, range_with_len}
-use Rattle.std.proofs.lemmas.Bool.{both_ways}
 use Rattle.std.proofs.lemmas.List.{get_or-set_same, get_or-set_other}
-use Rattle.queue.specs.Waiting.{waits, oldest, rest, lawful}
+use Rattle.queue.specs.Waiting.{waits, lawful}
 use Rattle.queue.specs.Round.{round}
 use Rattle.queue.proofs.Lawful.{lawful_push}
 use Rattle.queue.proofs.Distinct.{room}
@@ -13,17 +12,8 @@ pub length_round : (xs : List ℕ) (i n : ℕ) → length (round xs i n) ≡ n
 length_round xs i zero = refl
 length_round xs i (suc n) = ap suc (length_round xs ((i + 1) % 64) n)
 
--- the first and those behind it
-pub round_first : (xs : List ℕ) (i n : ℕ) → 0 < n → round xs i n ≡ get_or xs i 0 ∷ round xs ((i + 1) % 64) (n - 1)
-round_first xs i zero h = absurd (omega arith)
-round_first xs i (suc n) h = ap (λ (k : ℕ). get_or xs i 0 ∷ round xs ((i + 1) % 64) k) (omega arith)
-
-pub round_rest : (xs : List ℕ) (i n : ℕ) → round xs ((i + 1) % 64) (n - 1) ≡ rest (round xs i n)
-round_rest xs i zero = refl
-round_rest xs i (suc n) = ap (round xs ((i + 1) % 64)) (omega arith)
-
 -- one more in the place behind the last, while there is room
-pub round_push : (xs : List ℕ) (v i n j : ℕ) → length xs ≡ 64 → i < 64 → n < 64 → j ≡ (i + n) % 64 → round (set xs j v) i (suc n) ≡ round xs i n ++ v ∷ []
+round_push : (xs : List ℕ) (v i n j : ℕ) → length xs ≡ 64 → i < 64 → n < 64 → j ≡ (i + n) % 64 → round (set xs j v) i (suc n) ≡ round xs i n ++ v ∷ []
 round_push xs v i zero j l h k e =
     let same : i ≡ j = omega arith in
     ap (λ (x : ℕ). x ∷ []) (ap (λ (p : ℕ). get_or (set xs j v) p 0) same ∙ get_or-set_same xs j v 0 (omega arith))
@@ -46,8 +36,3 @@ round_waits xs i zero t a = refl
 round_waits xs i (suc n) t a =
     let next : ((i + a) % 64 + 1) % 64 ≡ (i + (a + 1)) % 64 = omega arith in
     rw next (ap (λ (b : Bool). eqb (get_or xs ((i + a) % 64) 0) t || b) (round_waits xs i n t (a + 1)))
-
--- who stands first is the oldest, so that some stand in the ring
-pub some_stand : (xs : List ℕ) (i n t : ℕ) → oldest (round xs i n) t ≡ true → 0 < n
-some_stand xs i zero t h = absurd (both_ways false refl h)
-some_stand xs i (suc n) t h = omega arith
