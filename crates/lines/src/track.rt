@@ -170,7 +170,9 @@ impl Track {
             (Line::L19 | Line::L20, _) => self.place = Place::Next(Line::L21),
             (Line::L21, Found::Number(0)) => self.place = Place::Next(Line::L22),
             (Line::L21, _) => self.place = Place::Next(Line::L22p1),
-            (Line::L22, _) if found == Found::Number(self.d) => self.place = Place::Next(Line::L22p1),
+            (Line::L22, _) if found == Found::Number(self.d) => self.place = Place::Next(
+                Line::L22p1,
+            ),
             (Line::L22, _) => self.place = Place::Next(Line::L22),
             (Line::L22p1, Found::Number(2)) => self.place = Place::Next(Line::L22p2),
             (Line::L22p2, _) if found != Found::Number(0) => self.place = Place::Next(Line::L22p2),
