@@ -23,7 +23,8 @@ fn opening<'a>(mut fields: Fields<'a>) -> Result<Call<'a>, Refusal>
     Ok(Call::Open(memory, queue, roles))
 }
 
-// The call that `letter` names, with its fields.
+// The call that `letter` names, with its fields. No `map(Call::Begin)`: a case whose
+// lifetime its argument does not name cannot be passed as a function.
 fn call_of<'a>(letter: char, fields: Fields<'a>) -> Result<Call<'a>, Refusal>
     ensures { over ask result ≡ called letter (left fields.entry) }
 {
