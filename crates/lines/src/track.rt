@@ -106,7 +106,8 @@ impl Track {
         }
     }
 
-    // A line of a writer was done: 0.1 to 6 on the way in, 7 and 8 on the way out.
+    // A line of a writer was done: 0.1 to 6 on the way in, 7 and 8 on the way out. (Line and found come
+    // side by side to these four: each matches on the pair, and a struct would only wrap it.)
     fn step_writer(&mut self, line: Line, found: Found)
         requires { tenfold line < 90 }
         ensures { self.new ≡ settle line self.old found }

@@ -16,7 +16,7 @@ pub enum Place {
     // inside, with the reading or the writing right
     Reading,
     Writing,
-    // at a line, by ten times its number
+    // at a line, by ten times its number: any number may be shown, so no enum of lines
     At(u32),
 }
 
@@ -41,7 +41,7 @@ pub enum Answer {
     Opened(u32),
     // the place of the task and its cost
     Moved(Place, u32),
-    // the number of the refusal
+    // the number of the refusal, of whichever layer
     Refused(u32),
 }
 

@@ -29,7 +29,7 @@ pub trait Queue {
         ensures { result ≡ size (waiting self.now) };
 }
 
-// The question on the task alone.
+// The question on the task alone. A memory asks it too (`place`), each with its own refusal.
 pub fn known(task: u32) -> Result<(), Refusal>
     ensures { result ≡ known_task task }
 {
