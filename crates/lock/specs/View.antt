@@ -2,16 +2,13 @@
 use Rattle.std.specs.Prelude.{◌≡◌, ℕ, ◌-◌, false, List, [], take, Option, Result, slice_index_or}
 use Rattle.memory.specs.declared.interface.Memory.{Ghosts as MemoryGhosts}
 use Rattle.queue.specs.declared.interface.Queue.{Ghosts as QueueGhosts}
-use Rattle.lines.specs.declared.place.Right.{Right}
 use Rattle.lines.specs.declared.place.Role.TheVariants.{Reader}
 use Rattle.calls.specs.declared.record.Record.{Record}
 use Rattle.calls.specs.declared.refusal.Refusal.{Refusal}
 use Rattle.calls.specs.Records.{fresh}
 use Rattle.calls.specs.States.{State}
 use Rattle.calls.specs.Steps.{Call, Answer, Verdict, Carried, judge}
-use Rattle.calls.specs.Steps as steps
 use Rattle.calls.specs.Opening.{Opens, open_refusal}
-use Rattle.lock.specs.Answers.{out_to}
 use Rattle.lock.specs.declared.records.Records.{Records}
 use Rattle.lock.specs.declared.locks.Lock.{Lock}
 
@@ -34,10 +31,6 @@ module _ {M Q : Type 0} (mem : MemoryGhosts M) (que : QueueGhosts Q) where
   -- the call does
   abbrev pub Does : Call → Lock M Q → Answer → Lock M Q → Type 0
   Does c l a l' = CarriesOut (judge c (view l)) l a l'
-
-  -- the call take does, where the pass that it hands out is made afterwards
-  abbrev pub Takes : Right → ℕ → Lock M Q → Result (Unit {0}) Refusal → Lock M Q → Type 0
-  Takes w t l r l' = Does (steps.take w t) l (out_to w l.number t r) l'
 
   -- a closed lock over the memory m, the queue q and the lent table
   abbrev pub closed_over : ℕ → M → Q → List ℕ → State

@@ -1,14 +1,14 @@
 // Passes handed out and laid back.
 ghost use Rattle.std.specs.Prelude.{◌≡◌, ◌≤◌, true, length};
-ghost use Rattle.lines.specs.declared.place.Right.TheVariants.{Reading as reading, Writing as writing};
 ghost use Rattle.lines.specs.Rights.{same_right};
 ghost use Rattle.calls.specs.Questions.{out_for, pass_refusal, take_refusal};
+ghost use Rattle.calls.specs.Records.{in_order};
 ghost use Rattle.calls.specs.Steps.{lay_back, take};
-ghost use Rattle.lock.specs.Answers.{Asked, HandedBack, said, spent, taken};
-ghost use Rattle.lock.specs.View.{Does, Takes, record_at, records_of, view};
+ghost use Rattle.lock.specs.Answers.{Asked, Given, HandedBack, said, spent, taken};
+ghost use Rattle.lock.specs.View.{Does, record_at, records_of, view};
 
 use crate::locks::Lock;
-use crate::pass::{Kept, ReadPass, WritePass};
+use crate::pass::{Bears, Kept, Pass};
 use calls::record::Record;
 use calls::refusal::Refusal;
 use lines::place::Right;
@@ -51,32 +51,34 @@ fn may_take(has: Option<Right>, out: Option<Right>, wanted: Right) -> Result<(),
 }
 
 impl<'a, M: Memory, Q: Queue> Lock<'a, M, Q> {
-    // The questions on the lock and a pass.
-    pub(crate) fn ask_pass(&self, right: Right, number: u32, task: u32) -> Result<(), Refusal>
-        ensures { Asked (pass_refusal (view M.Memory Q.Queue self.now) right number task) result ((1 ≤ task) × (task ≤ length (records_of self.now.records)) × (out_for (record_at (records_of self.now.records) task).out right ≡ true)) }
+    // The record of the task that a pass names, where such a pass is out to it.
+    pub(crate) fn holder<R: Bears>(&self, pass: &Pass<R>) -> Result<Record, Refusal>
+        ensures { let r = record_at (records_of self.now.records) pass.now.task in Given (pass_refusal (view M.Memory Q.Queue self.now) R.right pass.now.lock pass.now.task) r result ((1 ≤ pass.now.task) × (pass.now.task ≤ length (records_of self.now.records)) × (out_for r.out R.right ≡ true) × (in_order r ≡ true)) }
     {
         if !self.opened {
             return Err(Refusal::Shut);
         }
-        if number != self.number {
+        if pass.lock != self.number {
             return Err(Refusal::OtherLock);
         }
-        if task < 1 || task > self.records.count() {
+        if pass.task < 1 || pass.task > self.records.count() {
             return Err(Refusal::NoPass);
         }
-        if !is_for(self.records.get(task).out, right) {
+        let record = self.records.get(pass.task);
+        if !is_for(record.out, R::which()) {
             return Err(Refusal::NoPass);
         }
-        Ok(())
+        Ok(record)
     }
 
-    // A pass for this right goes out to the task.
+    // Hands out a pass to a task that has the right which it bears. Refused: 10, 20, 24, 25, 26.
     #[tactic(auto, using(crate::proofs::Ready::taken_in_order, crate::proofs::Ready::taken_sound))]
-    fn take(&mut self, right: Right, task: u32) -> Result<(), Refusal>
-        ensures { Takes M.Memory Q.Queue right task self.old result self.new }
+    pub fn take<R: Bears>(&mut self, task: u32) -> Result<Pass<R>, Refusal>
+        ensures { Does M.Memory Q.Queue (take R.right task) self.old (taken R.right result) self.new }
     {
         self.ask_task(task)?;
         let record = self.records.get(task);
+        let right = R::which();
         may_take(record.track.right(), record.out, right)?;
         self.records.put(
             task,
@@ -85,76 +87,24 @@ impl<'a, M: Memory, Q: Queue> Lock<'a, M, Q> {
                 ..record
             },
         );
-        Ok(())
+        Ok(Pass::new(self.number, task))
     }
 
     // The pass of the task comes back.
-    fn lay_back(&mut self, right: Right, number: u32, task: u32) -> Result<(), Refusal>
-        ensures { Does M.Memory Q.Queue (lay_back right number task) self.old (said result) self.new }
+    fn lay_back_by<R: Bears>(&mut self, pass: &Pass<R>) -> Result<(), Refusal>
+        ensures { Does M.Memory Q.Queue (lay_back R.right pass.now.lock pass.now.task) self.old (said result) self.new }
     {
-        self.ask_pass(right, number, task)?;
-        let record = self.records.get(task);
-        self.records.put(
-            task,
-            Record {
-                out: None,
-                ..record
-            },
-        );
+        let held = self.holder(pass)?;
+        self.records.put(pass.task, Record { out: None, ..held });
         Ok(())
     }
 
-    // Hands out a reading pass to a task that has the reading right. Refused: 10, 20, 24, 25, 26.
-    pub fn take_read(&mut self, task: u32) -> Result<ReadPass, Refusal>
-        ensures { Does M.Memory Q.Queue (take reading task) self.old (taken (λ p. (p.lock, p.task)) reading result) self.new }
-    {
-        match self.take(Right::Reading, task) {
-            Ok(()) => Ok(ReadPass {
-                lock: self.number,
-                task,
-            }),
-            Err(why) => Err(why),
-        }
-    }
-
-    // Hands out a writing pass to a task that has the writing right. Refused: 10, 20, 24, 25, 26.
-    pub fn take_write(&mut self, task: u32) -> Result<WritePass, Refusal>
-        ensures { Does M.Memory Q.Queue (take writing task) self.old (taken (λ p. (p.lock, p.task)) writing result) self.new }
-    {
-        match self.take(Right::Writing, task) {
-            Ok(()) => Ok(WritePass {
-                lock: self.number,
-                task,
-            }),
-            Err(why) => Err(why),
-        }
-    }
-
-    // Lays a reading pass back. Refused, and the pass comes back: 10, 27, 28.
-    pub fn lay_back_read(&mut self, pass: ReadPass) -> Result<(), Kept<ReadPass>>
-        ensures does { Does M.Memory Q.Queue (lay_back reading pass.lock pass.task) self.old (spent result) self.new }
+    // Lays a pass back. Refused, and the pass comes back: 10, 27, 28.
+    pub fn lay_back<R: Bears>(&mut self, pass: Pass<R>) -> Result<(), Kept<Pass<R>>>
+        ensures does { Does M.Memory Q.Queue (lay_back R.right pass.lock pass.task) self.old (spent result) self.new }
         ensures back { HandedBack pass result }
     {
-        match self.lay_back(Right::Reading, pass.lock, pass.task) {
-            Ok(()) => {
-                let ReadPass { lock: _, task: _ } = pass;
-                Ok(())
-            }
-            Err(why) => Err(Kept { pass, why }),
-        }
-    }
-
-    // Lays a writing pass back. Refused, and the pass comes back: 10, 27, 28.
-    pub fn lay_back_write(&mut self, pass: WritePass) -> Result<(), Kept<WritePass>>
-        ensures does { Does M.Memory Q.Queue (lay_back writing pass.lock pass.task) self.old (spent result) self.new }
-        ensures back { HandedBack pass result }
-    {
-        match self.lay_back(Right::Writing, pass.lock, pass.task) {
-            Ok(()) => {
-                let WritePass { lock: _, task: _ } = pass;
-                Ok(())
-            }
-            Err(why) => Err(Kept { pass, why }),
-        }
+        let made = self.lay_back_by(&pass);
+        pass.end_or_keep(made)
     }
 }
