@@ -1,12 +1,10 @@
 -- The best place of a list of tasks by cost is the first of the greatest cost.
-use Rattle.std.proofs.Common.{◌≡◌, ℕ, zero, suc, ◌+◌, ◌-◌, ◌<◌, ◌≤◌, eqb, List, [], ◌∷◌, length, get_or, Some, sym, ap, ◌∙◌, subst, arith}
-use Rattle.std.specs.List.{IsFirstMaxByKey}
-use Rattle.std.proofs.lemmas.List.{get_or_default, get_or-map, length-map}
-use Rattle.std.proofs.lemmas.List.Sums.{best_keeps, best_takes}
+use Rattle.std.proofs.Common.{◌≡◌, ℕ, zero, suc, ◌+◌, ◌<◌, ◌≤◌, eqb, List, [], ◌∷◌, length, get_or, Some, sym, ap, ◌∙◌, arith}
+use Rattle.std.proofs.lemmas.List.{get_or-map, length-map}
 use Rattle.std.proofs.lemmas.Bool.{eq-eqb, ne_eqb, cond-true, cond-false}
 use Rattle.lines.specs.declared.place.Role.TheVariants.{Reader}
 use Rattle.calls.specs.declared.record.Record.{Record}
-use Rattle.calls.specs.Costs.{CostsMost, cost_of, costliest_task, costs, first_with, greatest}
+use Rattle.calls.specs.Costs.{costliest_task, costs, first_with, greatest}
 use Rattle.calls.specs.Records.{fresh}
 
 le_greatest : (ns : List ℕ) (k : ℕ) → k < length ns → get_or ns k 0 ≤ greatest ns
@@ -27,25 +25,15 @@ first_with_is n (m ∷ ms) zero h e before = cond-true (eqb m n) 0 (suc (first_w
 first_with_is n (m ∷ ms) (suc b) h e before =
     cond-false (eqb m n) 0 (suc (first_with n ms)) (ne_eqb m n (before 0 (omega arith))) ∙ ap suc (first_with_is n ms b (omega arith) e (λ k l. before (suc k) (omega arith)))
 
-abbrev pub BestCost : List Record → ℕ → ℕ → Type 0
-BestCost = IsFirstMaxByKey (λ (r : Record). r.account.cost)
+-- b is the first place of the cost m, which is the greatest among those of the first i tasks
+abbrev pub Leads : List Record → (i b m : ℕ) → Type 0
+Leads tasks i b m =
+    (b < length tasks)
+    × ((d : Record) → m ≡ (get_or tasks b d).account.cost)
+    × ((k : ℕ) (d : Record) → k < i → k < length tasks → (get_or tasks k d).account.cost ≤ m)
+    × ((k : ℕ) (d : Record) → k < b → (get_or tasks k d).account.cost < m)
 
--- A turn of the loop: the task at i is looked at beside the best so far, at b.
-module _ (tasks : List Record) (i b z : ℕ) (best : BestCost tasks i b) (within : i < length tasks) (d : Record) where
-  same_cost : (k : ℕ) (e : Record) → k < length tasks → (get_or tasks k e).account.cost ≡ (get_or tasks k d).account.cost
-  same_cost k e h = ap (λ (r : Record). r.account.cost) (get_or_default tasks k e d h)
-
-  pub keeps_best : z ≡ b → (get_or tasks i d).account.cost ≤ (get_or tasks b d).account.cost → BestCost tasks (i + 1) z
-  keeps_best same h =
-      let below = best.0 in
-      subst (BestCost tasks (i + 1)) (sym same) (best_keeps (λ (r : Record). r.account.cost) tasks i b best (λ e. omega (arith, same_cost i e within, same_cost b e (omega arith))))
-
-  pub takes_best : z ≡ i → (get_or tasks b d).account.cost < (get_or tasks i d).account.cost → BestCost tasks (i + 1) z
-  takes_best same h =
-      let below = best.0 in
-      subst (BestCost tasks (i + 1)) (sym same) (best_takes (λ (r : Record). r.account.cost) tasks i b best (λ e. omega (arith, same_cost i e within, same_cost b e (omega arith))))
-
-module _ (tasks : List Record) (b : ℕ) (best : BestCost tasks (length tasks) b) where
+module _ (tasks : List Record) (b m : ℕ) (best : Leads tasks (length tasks) b m) where
   cost_at : (k : ℕ) → k < length tasks → get_or (costs tasks) k 0 ≡ (get_or tasks k (fresh Reader)).account.cost
   cost_at k h = get_or-map (λ (r : Record). r.account.cost) tasks k (fresh Reader) 0 h
 
@@ -56,26 +44,15 @@ module _ (tasks : List Record) (b : ℕ) (best : BestCost tasks (length tasks) b
   greatest_is =
       let within = best.0 in
       let low = le_greatest (costs tasks) b (omega (arith, count)) in
-      let high = greatest_le (costs tasks) (get_or (costs tasks) b 0) (λ k h. let l : k < length tasks = omega (arith, count) in omega (arith, cost_at k l, cost_at b within, best.1 k (fresh Reader) l)) in
+      let high = greatest_le (costs tasks) (get_or (costs tasks) b 0) (λ k h. let l : k < length tasks = omega (arith, count) in omega (arith, cost_at k l, cost_at b within, best.1 (fresh Reader), best.2 k (fresh Reader) l l)) in
       omega arith
 
   place_is : first_with (greatest (costs tasks)) (costs tasks) ≡ b
   place_is =
       let within = best.0 in
-      first_with_is (greatest (costs tasks)) (costs tasks) b (omega (arith, count)) (sym greatest_is) (λ k h e. omega (arith, cost_at k (omega arith), cost_at b within, greatest_is, best.2 k (fresh Reader) h))
+      first_with_is (greatest (costs tasks)) (costs tasks) b (omega (arith, count)) (sym greatest_is) (λ k h e. omega (arith, cost_at k (omega arith), cost_at b within, greatest_is, best.1 (fresh Reader), best.3 k (fresh Reader) h))
 
   pub costliest_is : Some (b + 1) ≡ costliest_task tasks
   costliest_is =
       let within = best.0 in
       ap Some (ap (λ (n : ℕ). n + 1) (sym place_is)) ∙ sym (cond-false (eqb (length tasks) 0) _ _ (ne_eqb (length tasks) 0 (λ e. omega arith)))
-
-  pub costs_most : CostsMost tasks (b + 1)
-  costs_most =
-      let within = best.0 in
-      let here : cost_of tasks (b + 1) ≡ (get_or tasks b (fresh Reader)).account.cost = ap (λ (n : ℕ). (get_or tasks n (fresh Reader)).account.cost) (omega arith) in
-      record {
-        from = omega arith;
-        upto = omega arith;
-        most = λ k low high. omega (arith, here, best.1 (k - 1) (fresh Reader) (omega arith));
-        first = λ k low high. omega (arith, here, best.2 (k - 1) (fresh Reader) (omega arith));
-      }

@@ -1,6 +1,5 @@
 pub mod Obeyed
 pub mod Sound
-pub mod Tallies
 pub mod Counts
 pub mod SoundState
 pub mod Greatest

@@ -1,10 +1,9 @@
 -- How a lock is opened: its questions, what task 1 writes, and the state then.
-use Rattle.std.specs.Prelude.{◌≡◌, ℕ, Bool, true, cond, not, ◌&&◌, ◌||◌, List, [], ◌∷◌, map, length, Some, None, Ok, Err, Option, Result, ◌==◌, nat_le}
+use Rattle.std.specs.Prelude.{◌≡◌, ℕ, Bool, true, not, ◌&&◌, List, [], ◌∷◌, map, length, Some, None, Ok, Err, Option, Result, ◌==◌, nat_le}
 use Rattle.memory.specs.declared.operation.Operation.{Operation}
 use Rattle.memory.specs.declared.operation.Operation.TheVariants.{Write}
 use Rattle.memory.specs.Calls.{Doing}
-use Rattle.lines.specs.declared.place.Role.{Role as TaskRole}
-use Rattle.lines.specs.declared.place.Role.TheVariants.{Reader, Writer}
+use Rattle.lines.specs.Roles.{is_role, role_of}
 use Rattle.lines.specs.Lines.{C, D, Gate, X, Permit, U, V}
 use Rattle.calls.specs.declared.refusal.Refusal.{Refusal}
 use Rattle.calls.specs.declared.refusal.Refusal.TheVariants.{Opened, Roles, Role, Limit, Ceiling, Queued}
@@ -13,16 +12,9 @@ use Rattle.calls.specs.Records.{fresh}
 use Rattle.calls.specs.States.{State}
 use Rattle.calls.specs.Questions.{ask}
 
--- a role is the byte R or W
-abbrev pub is_role : ℕ → Bool
-is_role b = b == 82 || b == 87
-
 abbrev pub are_roles : List ℕ → Bool
 are_roles [] = true
 are_roles (b ∷ bs) = is_role b && are_roles bs
-
-abbrev pub role_of : ℕ → TaskRole
-role_of b = cond (b == 87) Writer Reader
 
 -- the record of a task that has this role and never began
 abbrev pub enlisted : ℕ → Record

@@ -9,13 +9,12 @@ pub fn costliest(tasks: &[Record]) -> Option<usize>
     ensures value { result ≡ costliest_task tasks.now }
     ensures most { IsCostliest tasks.now result }
 {
-    if tasks.is_empty() {
-        return None;
-    }
     let mut best = 0;
-    for i in 1..tasks.len() {
-        if tasks[best].account.cost < tasks[i].account.cost {
+    let mut most = tasks.first()?.account.cost;
+    for (i, task) in tasks.iter().enumerate() {
+        if most < task.account.cost {
             best = i;
+            most = task.account.cost;
         }
     }
     Some(best + 1)

@@ -3,7 +3,7 @@ ghost use Rattle.std.specs.Prelude.{◌≡◌};
 ghost use Rattle.calls.specs.Records.{begun, fresh};
 
 use crate::account::Account;
-use lines::place::{Line, Place, Right, Role};
+use lines::place::{Place, Right, Role};
 use lines::track::Track;
 
 #[derive(Clone, Copy)]
@@ -31,9 +31,6 @@ impl Record {
         ensures { self.new ≡ begun self.old }
     {
         self.account.restart();
-        self.track.place = match self.track.role {
-            Role::Reader => Place::Next(Line::L16),
-            Role::Writer => Place::Next(Line::L0p1),
-        };
+        self.track.place = Place::Next(self.track.begin_line());
     }
 }

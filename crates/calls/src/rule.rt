@@ -5,17 +5,17 @@ ghost use Rattle.calls.specs.Rules.{rule_number};
 #[derive(Clone, Copy, PartialEq, Eq, Debug)]
 pub enum Rule {
     // each cell is within its range
-    Ranges,
+    Ranges = 1,
     // C is the number of counted tasks
-    Count,
+    Count = 2,
     // beside a task with the writing right no other is in the section
-    Exclusion,
+    Exclusion = 3,
     // at most one task is upgrading or upgraded
-    Upgrade,
+    Upgrade = 4,
     // U is 2 exactly when one task is upgraded
-    CellU,
+    CellU = 5,
     // X is 0 while a normal writer is inside
-    CellX,
+    CellX = 6,
 }
 
 impl Rule {
@@ -23,13 +23,6 @@ impl Rule {
     pub fn number(self) -> u32
         ensures { result ≡ rule_number self }
     {
-        match self {
-            Rule::Ranges => 1,
-            Rule::Count => 2,
-            Rule::Exclusion => 3,
-            Rule::Upgrade => 4,
-            Rule::CellU => 5,
-            Rule::CellX => 6,
-        }
+        self as u32
     }
 }

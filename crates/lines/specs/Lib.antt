@@ -5,3 +5,4 @@ pub mod Starts
 pub mod Rights
 pub mod Classes
 pub mod Deeds
+pub mod Roles

@@ -1,6 +1,6 @@
 // What one line does, and what it finds.
 ghost use Rattle.std.specs.Prelude.{◌≡◌};
-ghost use Rattle.lines.specs.Found.{number_found, is_number, is_above_one};
+ghost use Rattle.lines.specs.Found.{number_found};
 
 use memory::operation::Operation;
 
@@ -30,24 +30,6 @@ impl Found {
         match self {
             Found::Number(number) => number,
             Found::Nothing | Found::Answer(_) => 0,
-        }
-    }
-
-    pub(crate) fn is(self, number: u32) -> bool
-        ensures { result ≡ is_number number self }
-    {
-        match self {
-            Found::Number(found) => found == number,
-            Found::Nothing | Found::Answer(_) => false,
-        }
-    }
-
-    pub(crate) fn is_above_one(self) -> bool
-        ensures { result ≡ is_above_one self }
-    {
-        match self {
-            Found::Number(found) => found > 1,
-            Found::Nothing | Found::Answer(_) => false,
         }
     }
 }

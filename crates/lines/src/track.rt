@@ -142,7 +142,7 @@ impl Track {
             }
             (Line::L10, _) if self.x != 0 => self.place = Place::Next(Line::L11),
             (Line::L11, Found::Answer(true)) => self.place = Place::Next(Line::L12),
-            (Line::L12, _) if !found.is(1) => self.place = Place::Next(Line::L13),
+            (Line::L12, _) if found != Found::Number(1) => self.place = Place::Next(Line::L13),
             (Line::L13, Found::Number(0)) => self.place = Place::Next(Line::L14),
             (Line::L14, Found::Answer(true)) => self.place = Place::Next(Line::L15),
             _ => self.end_promote(),
@@ -169,10 +169,10 @@ impl Track {
             (Line::L19 | Line::L20, _) => self.place = Place::Next(Line::L21),
             (Line::L21, Found::Number(0)) => self.place = Place::Next(Line::L22),
             (Line::L21, _) => self.place = Place::Next(Line::L22p1),
-            (Line::L22, _) if found.is(self.d) => self.place = Place::Next(Line::L22p1),
+            (Line::L22, _) if found == Found::Number(self.d) => self.place = Place::Next(Line::L22p1),
             (Line::L22, _) => self.place = Place::Next(Line::L22),
-            (Line::L22p1, _) if found.is(2) => self.place = Place::Next(Line::L22p2),
-            (Line::L22p2, _) if !found.is(0) => self.place = Place::Next(Line::L22p2),
+            (Line::L22p1, Found::Number(2)) => self.place = Place::Next(Line::L22p2),
+            (Line::L22p2, _) if found != Found::Number(0) => self.place = Place::Next(Line::L22p2),
             _ => self.enter(Standing::Normal),
         }
     }
@@ -188,7 +188,7 @@ impl Track {
             (Line::L25p2, _) => self.place = Place::Next(Line::L25p3),
             (Line::L25p3 | Line::Down28p2, _) => self.enter(Standing::Downgraded),
             (Line::L26p1, _) => self.place = Place::Next(Line::L32p1),
-            (Line::L27p1 | Line::L27p3, _) if found.is_above_one() => self.place = Place::Inside,
+            (Line::L27p1 | Line::L27p3, Found::Number(2..)) => self.place = Place::Inside,
             (Line::L27p1, _) => self.place = Place::Next(Line::L27p2),
             (Line::L27p2, _) => self.place = Place::Next(Line::L27p3),
             (Line::L27p3, _) => self.place = Place::Next(Line::L27p4),

@@ -1,5 +1,5 @@
-use Rattle.calls.proofs.Greatest.{BestCost}
+use Rattle.calls.proofs.Greatest.{Leads}
 use Rattle.calls.proofs.costs.costliest.Given as goal
 
 abbrev pub invariant-loop-i : goal.invariant-loop-i
-invariant-loop-i l = BestCost l.tasks l.i l.best
+invariant-loop-i l = Leads l.tasks l.i l.best l.most
