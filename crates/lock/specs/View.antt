@@ -1,5 +1,5 @@
 -- The lock as its calls see it.
-use Rattle.std.specs.Prelude.{◌≡◌, ℕ, ◌-◌, false, List, [], take, Option, Result, slice_index_or}
+use Rattle.std.specs.Prelude.{◌≡◌, ℕ, ◌-◌, false, List, [], length, take, Option, Result, nat_lt, slice_index_or}
 use Rattle.memory.specs.declared.interface.Memory.{Ghosts as MemoryGhosts}
 use Rattle.queue.specs.declared.interface.Queue.{Ghosts as QueueGhosts}
 use Rattle.lines.specs.declared.place.Role.TheVariants.{Reader}
@@ -20,9 +20,9 @@ abbrev pub record_at : List Record → ℕ → Record
 record_at rs t = slice_index_or rs (t - 1) (fresh Reader)
 
 module _ {M Q : Type 0} (mem : MemoryGhosts M) (que : QueueGhosts Q) where
-  -- the state of a lock over this memory and this queue
+  -- the state of a lock over this memory and this queue: one without tasks is closed
   abbrev pub view : Lock M Q → State
-  view l = record { number = l.number; opened = l.opened; cells = mem.cells l.memory; waiting = que.waiting l.queue; records = records_of l.records; table = l.table.now }
+  view l = record { number = l.number; opened = nat_lt 0 (length (records_of l.records)); cells = mem.cells l.memory; waiting = que.waiting l.queue; records = records_of l.records; table = l.table.now }
 
   -- the verdict, carried out on the lock l, gives the answer and leaves the lock so, with the table that was lent
   abbrev pub CarriesOut : Verdict → Lock M Q → Answer → Lock M Q → Type 0

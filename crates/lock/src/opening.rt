@@ -75,7 +75,6 @@ impl<'a, M: Memory, Q: Queue> Lock<'a, M, Q> {
     {
         Lock {
             number,
-            opened: false,
             memory,
             queue,
             records: enlist_all(&[]),
@@ -85,9 +84,9 @@ impl<'a, M: Memory, Q: Queue> Lock<'a, M, Q> {
 
     // The questions before opening.
     fn ask_open(&self, roles: &[u8]) -> Result<(), Refusal>
-        ensures { Asked (open_refused M.Memory Q.Queue self.now roles.now) result ((length roles.now ≤ 64) × (2 ≤ M.Memory.limit)) }
+        ensures { Asked (open_refused M.Memory Q.Queue self.now roles.now) result ((1 ≤ length roles.now) × (length roles.now ≤ 64) × (2 ≤ M.Memory.limit)) }
     {
-        if self.opened {
+        if self.is_open() {
             return Err(Refusal::Opened);
         }
         let n = roles.len();
@@ -117,7 +116,6 @@ impl<'a, M: Memory, Q: Queue> Lock<'a, M, Q> {
         self.ask_open(roles)?;
         set_cells(&mut self.memory)?;
         self.records = enlist_all(roles);
-        self.opened = true;
         Ok(())
     }
 }

@@ -1,38 +1,21 @@
 // Passes handed out and laid back.
-ghost use Rattle.std.specs.Prelude.{◌≡◌, ◌≤◌, true, length};
-ghost use Rattle.lines.specs.Rights.{same_right};
+ghost use Rattle.std.specs.Prelude.{◌≡◌, true, None, Some};
+ghost use Rattle.lines.specs.Rights.{right_of};
 ghost use Rattle.calls.specs.Questions.{out_for, pass_refusal, take_refusal};
-ghost use Rattle.calls.specs.Records.{in_order};
+ghost use Rattle.calls.specs.Records.{with_out};
 ghost use Rattle.calls.specs.Steps.{lay_back, take};
-ghost use Rattle.lock.specs.Answers.{Asked, Given, HandedBack, said, spent, taken};
+ghost use Rattle.lock.specs.Answers.{Asked, HandedBack, said, spent, taken};
+ghost use Rattle.lock.specs.Tasks.{Given};
 ghost use Rattle.lock.specs.View.{Does, record_at, records_of, view};
 
 use crate::locks::Lock;
 use crate::pass::{Bears, Kept, Pass};
+use crate::task::Task;
 use calls::record::Record;
 use calls::refusal::Refusal;
 use lines::place::Right;
 use memory::interface::Memory;
 use queue::interface::Queue;
-
-fn is_same(a: Right, b: Right) -> bool
-    ensures { result ≡ same_right a b }
-{
-    match (a, b) {
-        (Right::Reading, Right::Reading) | (Right::Writing, Right::Writing) => true,
-        (Right::Reading, Right::Writing) | (Right::Writing, Right::Reading) => false,
-    }
-}
-
-// Whether the pass that is out is for this right.
-fn is_for(out: Option<Right>, right: Right) -> bool
-    ensures { result ≡ out_for out right }
-{
-    match out {
-        Some(given) => is_same(given, right),
-        None => false,
-    }
-}
 
 // Whether a task that has this right, and this pass out, may take one for the right wanted.
 fn may_take(has: Option<Right>, out: Option<Right>, wanted: Right) -> Result<(), Refusal>
@@ -44,49 +27,67 @@ fn may_take(has: Option<Right>, out: Option<Right>, wanted: Right) -> Result<(),
     let None = out else {
         return Err(Refusal::PassOut);
     };
-    if !is_same(right, wanted) {
+    if right != wanted {
         return Err(Refusal::OtherRight);
     }
     Ok(())
 }
 
-impl<'a, M: Memory, Q: Queue> Lock<'a, M, Q> {
-    // The record of the task that a pass names, where such a pass is out to it.
-    pub(crate) fn holder<R: Bears>(&self, pass: &Pass<R>) -> Result<Record, Refusal>
-        ensures { let r = record_at (records_of self.now.records) pass.now.task in Given (pass_refusal (view M.Memory Q.Queue self.now) R.right pass.now.lock pass.now.task) r result ((1 ≤ pass.now.task) × (pass.now.task ≤ length (records_of self.now.records)) × (out_for r.out R.right ≡ true) × (in_order r ≡ true)) }
+impl Task {
+    // A pass for this right goes out to the task. Refused: 24, 25, 26.
+    fn hand_out(self, right: Right) -> Result<Task, Refusal>
+        ensures { Given (take_refusal (right_of self.state.track) self.state.out right) self.number (with_out self.state (Some right)) result (Unit {0}) }
     {
-        if !self.opened {
+        may_take(self.state.track.right(), self.state.out, right)?;
+        Ok(Task {
+            number: self.number,
+            state: Record {
+                out: Some(right),
+                ..self.state
+            },
+        })
+    }
+
+    // No pass is out to the task any more.
+    fn take_back(self) -> Task
+        ensures number { result.number ≡ self.number }
+        ensures state { result.state ≡ with_out self.state None }
+    {
+        Task {
+            number: self.number,
+            state: Record {
+                out: None,
+                ..self.state
+            },
+        }
+    }
+}
+
+impl<'a, M: Memory, Q: Queue> Lock<'a, M, Q> {
+    // The task that a pass names, where such a pass is out to it. Refused: 10, 27, 28.
+    pub(crate) fn holder<R: Bears>(&self, pass: &Pass<R>) -> Result<Task, Refusal>
+        ensures { let r = record_at (records_of self.now.records) pass.now.task in Given (pass_refusal (view M.Memory Q.Queue self.now) R.right pass.now.lock pass.now.task) pass.now.task r result (out_for r.out R.right ≡ true) }
+    {
+        if !self.is_open() {
             return Err(Refusal::Shut);
         }
         if pass.lock != self.number {
             return Err(Refusal::OtherLock);
         }
-        if pass.task < 1 || pass.task > self.records.count() {
+        let task = self.records.get(pass.task).ok_or(Refusal::NoPass)?;
+        if task.state.out != Some(R::which()) {
             return Err(Refusal::NoPass);
         }
-        let record = self.records.get(pass.task);
-        if !is_for(record.out, R::which()) {
-            return Err(Refusal::NoPass);
-        }
-        Ok(record)
+        Ok(task)
     }
 
     // Hands out a pass to a task that has the right which it bears. Refused: 10, 20, 24, 25, 26.
-    #[tactic(auto, using(crate::proofs::Ready::taken_in_order, crate::proofs::Ready::taken_sound))]
     pub fn take<R: Bears>(&mut self, task: u32) -> Result<Pass<R>, Refusal>
         ensures { Does M.Memory Q.Queue (take R.right task) self.old (taken R.right result) self.new }
     {
-        self.ask_task(task)?;
-        let record = self.records.get(task);
         let right = R::which();
-        may_take(record.track.right(), record.out, right)?;
-        self.records.put(
-            task,
-            Record {
-                out: Some(right),
-                ..record
-            },
-        );
+        let holder = self.find(task)?.hand_out(right)?;
+        self.records.put(holder);
         Ok(Pass::new(self.number, task))
     }
 
@@ -94,8 +95,8 @@ impl<'a, M: Memory, Q: Queue> Lock<'a, M, Q> {
     fn lay_back_by<R: Bears>(&mut self, pass: &Pass<R>) -> Result<(), Refusal>
         ensures { Does M.Memory Q.Queue (lay_back R.right pass.now.lock pass.now.task) self.old (said result) self.new }
     {
-        let held = self.holder(pass)?;
-        self.records.put(pass.task, Record { out: None, ..held });
+        let holder = self.holder(pass)?;
+        self.records.put(holder.take_back());
         Ok(())
     }
 

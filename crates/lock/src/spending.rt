@@ -5,7 +5,6 @@ ghost use Rattle.lock.specs.View.{Does};
 
 use crate::locks::Lock;
 use crate::pass::{Bears, Kept, Pass, ReadPass, WritePass};
-use crate::readying::{ready_to_downgrade, ready_to_leave, ready_to_upgrade};
 use calls::refusal::Refusal;
 use memory::interface::Memory;
 use queue::interface::Queue;
@@ -15,24 +14,24 @@ impl<'a, M: Memory, Q: Queue> Lock<'a, M, Q> {
     fn upgrade_by(&mut self, pass: &ReadPass) -> Result<(), Refusal>
         ensures { Does M.Memory Q.Queue (upgrade pass.now.lock pass.now.task) self.old (said result) self.new }
     {
-        let ready = ready_to_upgrade(self.holder(pass)?)?;
-        self.do_line(pass.task, ready)
+        let ready = self.holder(pass)?.ready_to_upgrade()?;
+        self.do_line(ready)
     }
 
     // The task does line 25.1 or 28.1.
     fn downgrade_by(&mut self, pass: &WritePass) -> Result<(), Refusal>
         ensures { Does M.Memory Q.Queue (downgrade pass.now.lock pass.now.task) self.old (said result) self.new }
     {
-        let ready = ready_to_downgrade(self.holder(pass)?);
-        self.do_line(pass.task, ready)
+        let ready = self.holder(pass)?.ready_to_downgrade();
+        self.do_line(ready)
     }
 
     // The task does the first line of its leave.
     fn leave_by<R: Bears>(&mut self, pass: &Pass<R>) -> Result<(), Refusal>
         ensures { Does M.Memory Q.Queue (leave R.right pass.now.lock pass.now.task) self.old (said result) self.new }
     {
-        let ready = ready_to_leave(self.holder(pass)?, R::which());
-        self.do_line(pass.task, ready)
+        let ready = self.holder(pass)?.ready_to_leave::<R>();
+        self.do_line(ready)
     }
 
     // Spends a reading pass on line 27.1. Refused, and the pass comes back: 10, 27, 28, 29.
