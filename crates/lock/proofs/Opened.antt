@@ -1,5 +1,5 @@
 -- A lock that was opened.
-use Rattle.std.proofs.Common.{ltb, ◌≡◌, ℕ, zero, suc, ◌+◌, ◌<◌, ◌≤◌, Bool, true, List, [], ◌∷◌, ◌++◌, map, length, get_or, take, set, replicate, None, Ok, Option, sym, refl, ap, ◌∙◌, subst, arith}
+use Rattle.std.proofs.Common.{ltb, ◌&&◌, ◌≡◌, ℕ, zero, suc, ◌+◌, ◌<◌, ◌≤◌, Bool, true, List, [], ◌∷◌, ◌++◌, map, length, get_or, take, set, replicate, None, Ok, Option, sym, refl, ap, ◌∙◌, subst, arith}
 use lib.ListN.{length-replicate}
 use Rattle.std.proofs.lemmas.List.{length-set, take_more_set, map_more, take_all}
 use Rattle.std.specs.List.{list_all}
@@ -13,9 +13,13 @@ use Rattle.lines.specs.declared.place.Role.TheVariants.{Reader}
 use Rattle.calls.specs.Records.{fresh, in_order}
 use Rattle.calls.proofs.Sound.{fresh_in_order}
 use Rattle.calls.specs.States.{State}
-use Rattle.lines.specs.Roles.{role_of}
-use Rattle.calls.specs.Opening.{Opens, Wrote, enlisted, opened_to, opening_cells, opening_writes}
+use Rattle.lines.specs.Roles.{is_role, role_of}
+use Rattle.calls.specs.Opening.{Opens, Wrote, are_roles, enlisted, opened_to, opening_cells, opening_writes}
 use Rattle.lock.proofs.Kept.{pass_set}
+
+pub each_role : (bs : List ℕ) → list_all is_role bs ≡ are_roles bs
+each_role [] = refl
+each_role (b ∷ bs) = ap (λ v. is_role b && v) (each_role bs)
 
 -- the records of the first i tasks stand
 pub record Enlisted (all : List Record) (roles : List ℕ) (i : ℕ) : Type 0 where

@@ -10,5 +10,6 @@ returns g c =
     let k = c.args.ready.task in
     let p = c.in_ok-told.ensures in
     let opened = ap (ltb 0) c.put.ensures.count in
-    let records = c.put.ensures.is ∙ ap (λ n. set (records_of s.records) (n - 1) c.settle.result.state) c.settle.ensures.number in
-    (line_done m.limit m.does (view m g.Q.Queue s) _ _ _ k.number k.state c.deed-deed.result _ _ c.settle.result.state c.deed-deed.ensures p.0 p.1 p.2 c.settle.ensures.state refl opened p.3 p.4 records refl, refl)
+    let y = c.settle.result.state in
+    let records = ◌∙◌ {b = set (records_of s.records) (c.settle.result.number - 1) y} c.put.ensures.is (ap (λ n. set (records_of s.records) (n - 1) y) c.settle.ensures.number) in
+    (line_done m.limit m.does (view m g.Q.Queue s) _ _ _ k.number k.state c.deed-deed.result _ _ y c.deed-deed.ensures p.0 p.1 p.2 c.settle.ensures.state refl opened p.3 p.4 records refl, refl)
