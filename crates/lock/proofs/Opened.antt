@@ -1,26 +1,29 @@
 -- A lock that was opened.
-use Rattle.std.proofs.Common.{◌≡◌, ℕ, zero, suc, ◌+◌, ◌<◌, ◌≤◌, Bool, true, List, [], ◌∷◌, ◌++◌, map, length, get_or, take, set, replicate, None, Ok, Option, sym, refl, ap, ◌∙◌, subst, arith}
+use Rattle.std.proofs.Common.{ltb, ◌&&◌, ◌≡◌, ℕ, zero, suc, ◌+◌, ◌<◌, ◌≤◌, Bool, true, List, [], ◌∷◌, ◌++◌, map, length, get_or, take, set, replicate, None, Ok, Option, sym, refl, ap, ◌∙◌, subst, arith}
 use lib.ListN.{length-replicate}
 use Rattle.std.proofs.lemmas.List.{length-set, take_more_set, map_more, take_all}
 use Rattle.std.specs.List.{list_all}
-use Rattle.std.proofs.lemmas.Bool.{and_from}
+use Rattle.std.proofs.lemmas.Bool.{and_from, lt-ltb}
 use Rattle.memory.specs.declared.operation.Operation.{Operation}
 use Rattle.memory.specs.Calls.{Doing, Kept}
 use Rattle.memory.specs.Operations.{after}
 use Rattle.calls.specs.declared.record.Record.{Record}
 use Rattle.calls.specs.declared.refusal.Refusal.{Refusal}
 use Rattle.lines.specs.declared.place.Role.TheVariants.{Reader}
-use Rattle.calls.specs.Records.{fresh, in_order, sound}
-use Rattle.calls.proofs.Sound.{fresh_in_order, sound_of}
+use Rattle.calls.specs.Records.{fresh, in_order}
+use Rattle.calls.proofs.Sound.{fresh_in_order}
 use Rattle.calls.specs.States.{State}
-use Rattle.calls.specs.Opening.{Opens, Wrote, enlisted, opened_to, opening_cells, opening_writes}
-use Rattle.lines.specs.Roles.{role_of}
+use Rattle.lines.specs.Roles.{is_role, role_of}
+use Rattle.calls.specs.Opening.{Opens, Wrote, are_roles, enlisted, opened_to, opening_cells, opening_writes}
 use Rattle.lock.proofs.Kept.{pass_set}
+
+pub each_role : (bs : List ℕ) → list_all is_role bs ≡ are_roles bs
+each_role [] = refl
+each_role (b ∷ bs) = ap (λ v. is_role b && v) (each_role bs)
 
 -- the records of the first i tasks stand
 pub record Enlisted (all : List Record) (roles : List ℕ) (i : ℕ) : Type 0 where
   pub places : length all ≡ 64
-  pub adds : list_all sound all ≡ true
   pub ordered : list_all in_order all ≡ true
   pub first : take i all ≡ map enlisted (take i roles)
 
@@ -31,18 +34,22 @@ pass_replicate p (suc n) r h = and_from (p r) (list_all p (replicate n r)) h (pa
 pub enlist_none : (r : Record) (roles : List ℕ) → r ≡ fresh Reader → Enlisted (replicate 64 r) roles 0
 enlist_none r roles new =
     let kept = ap in_order new ∙ fresh_in_order Reader in
-    record { places = length-replicate 64 r; adds = pass_replicate sound 64 r (sound_of r kept); ordered = pass_replicate in_order 64 r kept; first = refl }
+    record { places = length-replicate 64 r; ordered = pass_replicate in_order 64 r kept; first = refl }
 
 pub enlist_more : (all : List Record) (roles : List ℕ) (i : ℕ) (r : Record) → Enlisted all roles i → i < length roles → length roles ≤ 64 → r ≡ enlisted (get_or roles i 0) → Enlisted (set all i r) roles (i + 1)
 enlist_more all roles i r e less few new = let kept = ap in_order new ∙ fresh_in_order (role_of (get_or roles i 0)) in record {
   places = length-set all i r ∙ e.places;
-  adds = pass_set sound all i r e.adds (sound_of r kept);
   ordered = pass_set in_order all i r e.ordered kept;
   first = take_more_set all i r (omega (arith, e.places)) ∙ ap (λ ys. ys ++ r ∷ []) e.first ∙ ap (λ y. map enlisted (take i roles) ++ y ∷ []) new ∙ sym (map_more enlisted roles i 0 less);
 }
 
 pub enlisted_all : (all : List Record) (roles : List ℕ) (i : ℕ) → Enlisted all roles i → i ≡ length roles → take (length roles) all ≡ map enlisted roles
 enlisted_all all roles i e is = subst (λ n. take n all ≡ map enlisted (take n roles)) is e.first ∙ ap (map enlisted) (take_all (length roles) roles (omega arith))
+
+-- a lock with these tasks is open
+pub open_with : (rs : List Record) (roles : List ℕ) → rs ≡ map enlisted roles → 1 ≤ length roles → ltb 0 (length rs) ≡ true
+open_with rs [] is some = absurd (omega (arith, some))
+open_with rs (b ∷ bs) is some = ap (λ xs. ltb 0 (length xs)) is ∙ lt-ltb 0 _ (omega arith)
 
 -- the cells that the opening writes make of any seven
 

@@ -4,6 +4,7 @@ use Rattle.calls.specs.declared.refusal.Refusal.{Refusal}
 use Rattle.lines.specs.declared.place.Right.{Right}
 use Rattle.calls.specs.Steps.{Answer, done, gives, hands, no}
 use Rattle.lock.specs.declared.pass.Kept.{Kept}
+use Rattle.lock.specs.declared.pass.Pass.{Pass}
 
 -- a call that gives nothing but that it was obeyed
 abbrev pub said : Result (Unit {0}) Refusal → Answer
@@ -15,15 +16,15 @@ abbrev pub Asked : Option Refusal → Result (Unit {0}) Refusal → Type 0 → T
 Asked o (Ok _) P = (o ≡ None) × P
 Asked o (Err e) P = o ≡ Some e
 
--- a pass for this right was handed out, read by its lock number and its task
-abbrev pub taken : {P : Type 0} → (P → ℕ × ℕ) → Right → Result P Refusal → Answer
-taken bears w (Ok p) = hands w (bears p).0 (bears p).1
-taken bears w (Err e) = no e
+-- questions were asked, and x is given; P is then known
+abbrev pub Given : {A : Type 0} → Option Refusal → A → Result A Refusal → Type 0 → Type 0
+Given o x (Ok r) P = (o ≡ None) × (r ≡ x) × P
+Given o x (Err e) P = o ≡ Some e
 
--- the same before the pass is made
-abbrev pub out_to : Right → ℕ → ℕ → Result (Unit {0}) Refusal → Answer
-out_to w number t (Ok _) = hands w number t
-out_to w number t (Err e) = no e
+-- a pass for this right was handed out
+abbrev pub taken : {R : Type 0} → Right → Result (Pass R) Refusal → Answer
+taken w (Ok p) = hands w p.lock p.task
+taken w (Err e) = no e
 
 -- a pass was spent or laid back
 abbrev pub spent : {P : Type 0} → Result (Unit {0}) (Kept P) → Answer

@@ -1,4 +1,4 @@
-pub mod Ready
 pub mod View
+pub mod Tasks
 pub mod Performed
 pub mod Answers

@@ -1,9 +1,10 @@
 // A task's record read and replaced.
-ghost use Rattle.std.specs.Prelude.{◌≡◌, ◌-◌, ◌≤◌, true, length, slice_set};
-ghost use Rattle.calls.specs.Records.{in_order, sound};
-ghost use Rattle.lock.specs.View.{records_of, record_at};
+ghost use Rattle.std.specs.Prelude.{◌≡◌, ◌-◌, ◌≤◌, length, slice_set};
+ghost use Rattle.lock.specs.Tasks.{Among};
+ghost use Rattle.lock.specs.View.{records_of};
 
 use crate::records::Records;
+use crate::task::Task;
 use calls::record::Record;
 
 impl Records {
@@ -22,25 +23,24 @@ impl Records {
         &self.all[0..self.count as usize]
     }
 
-    // The record of a task.
-    pub(crate) fn get(&self, task: u32) -> Record
-        requires low { 1 ≤ task }
-        requires high { task ≤ length (records_of self.now) }
-        ensures is { result ≡ record_at (records_of self.now) task }
-        ensures sound { sound result ≡ true }
-        ensures ordered { in_order result ≡ true }
+    // The task with this number, if there is one.
+    pub(crate) fn get(&self, number: u32) -> Option<Task>
+        ensures { Among (records_of self.now) number result }
     {
-        self.all[task as usize - 1]
+        if number < 1 || number > self.count {
+            return None;
+        }
+        Some(Task {
+            number,
+            state: self.all[number as usize - 1],
+        })
     }
 
-    // The task's record from now on.
-    pub(crate) fn put(&mut self, task: u32, new: Record)
-        requires low { 1 ≤ task }
-        requires high { task ≤ length (records_of self.old) }
-        requires sound { sound new ≡ true }
-        requires ordered { in_order new ≡ true }
-        ensures { records_of self.new ≡ slice_set (records_of self.old) (task - 1) new }
+    // The task's record is this from now on.
+    pub(crate) fn put(&mut self, task: Task)
+        ensures is { records_of self.new ≡ slice_set (records_of self.old) (task.number - 1) task.state }
+        ensures count { length (records_of self.new) ≡ length (records_of self.old) }
     {
-        self.all[task as usize - 1] = new;
+        self.all[task.number as usize - 1] = task.state;
     }
 }

@@ -1,68 +1,36 @@
 // The calls that move a task by one line.
-ghost use Rattle.std.specs.Prelude.{◌<◌, ◌≤◌, length};
-ghost use Rattle.calls.specs.Questions.{advance_refusal, begin_refusal, task_refusal};
+ghost use Rattle.calls.specs.Questions.{task_refusal};
 ghost use Rattle.calls.specs.Steps.{advance, begin, line};
-ghost use Rattle.lock.specs.Answers.{Asked, said};
-ghost use Rattle.lock.specs.Ready.{Ready};
-ghost use Rattle.lock.specs.View.{CarriesOut, Does, records_of, view};
+ghost use Rattle.lock.specs.Answers.{said};
+ghost use Rattle.lock.specs.Tasks.{Given};
+ghost use Rattle.lock.specs.View.{CarriesOut, Does, record_at, records_of, view};
 
 use crate::deeds::perform;
 use crate::locks::Lock;
-use crate::settling::settle;
-use calls::record::Record;
+use crate::task::{ReadyTask, Task};
 use calls::refusal::Refusal;
-use lines::place::Place;
 use memory::interface::Memory;
 use queue::interface::Queue;
 
-// Whether a task with this record may begin.
-fn may_begin(task: &Record) -> Result<(), Refusal>
-    ensures { Asked (begin_refusal task.now) result (task.now.account.finished < 1000000) }
-{
-    let Place::Rest = task.track.place else {
-        return Err(Refusal::Busy);
-    };
-    if task.account.finished >= 1000000 {
-        return Err(Refusal::Finished);
-    }
-    Ok(())
-}
-
-// Whether a task with this record may advance.
-fn may_advance(task: &Record) -> Result<(), Refusal>
-    ensures { Asked (advance_refusal task.now) result (Unit {0}) }
-{
-    match task.track.place {
-        Place::Next(_) => Ok(()),
-        Place::Rest | Place::Inside => Err(Refusal::OffLine),
-    }
-}
-
 impl<'a, M: Memory, Q: Queue> Lock<'a, M, Q> {
-    // The questions on the lock and the task.
-    pub(crate) fn ask_task(&self, task: u32) -> Result<(), Refusal>
-        ensures { Asked (task_refusal (view M.Memory Q.Queue self.now) task) result ((1 ≤ task) × (task ≤ length (records_of self.now.records))) }
+    // The task with this number. Refused: 10, 20.
+    pub(crate) fn find(&self, number: u32) -> Result<Task, Refusal>
+        ensures { Given (task_refusal (view M.Memory Q.Queue self.now) number) number (record_at (records_of self.now.records) number) result (Unit {0}) }
     {
-        if !self.opened {
+        if !self.is_open() {
             return Err(Refusal::Shut);
         }
-        if task < 1 || task > self.records.count() {
-            return Err(Refusal::NoTask);
-        }
-        Ok(())
+        self.records.get(number).ok_or(Refusal::NoTask)
     }
 
-    // The task does the next line of this record, which is then its own.
-    pub(crate) fn do_line(&mut self, task: u32, mut ready: Record) -> Result<(), Refusal>
-        requires low { 1 ≤ task }
-        requires high { task ≤ length (records_of self.old.records) }
-        requires ready { Ready ready }
-        ensures { CarriesOut M.Memory Q.Queue (line task ready) self.old (said result) self.new }
+    // The task does its next line.
+    pub(crate) fn do_line(&mut self, ready: ReadyTask) -> Result<(), Refusal>
+        ensures { CarriesOut M.Memory Q.Queue (line ready.task.number ready.task.state) self.old (said result) self.new }
     {
-        let deed = ready.track.deed(task);
-        let told = perform(&mut self.memory, &mut self.queue, task, deed)?;
-        settle(&mut ready, told.found, told.share);
-        self.records.put(task, ready);
+        let number = ready.task.number;
+        let deed = ready.task.state.track.deed(number);
+        let told = perform(&mut self.memory, &mut self.queue, number, deed)?;
+        self.records.put(ready.settle(told));
         Ok(())
     }
 
@@ -70,20 +38,15 @@ impl<'a, M: Memory, Q: Queue> Lock<'a, M, Q> {
     pub fn begin(&mut self, task: u32) -> Result<(), Refusal>
         ensures { Does M.Memory Q.Queue (begin task) self.old (said result) self.new }
     {
-        self.ask_task(task)?;
-        let mut ready = self.records.get(task);
-        may_begin(&ready)?;
-        ready.begin();
-        self.do_line(task, ready)
+        let ready = self.find(task)?.ready_to_begin()?;
+        self.do_line(ready)
     }
 
     // Does the next line of a task. Refused: 10, 20, 23.
     pub fn advance(&mut self, task: u32) -> Result<(), Refusal>
         ensures { Does M.Memory Q.Queue (advance task) self.old (said result) self.new }
     {
-        self.ask_task(task)?;
-        let ready = self.records.get(task);
-        may_advance(&ready)?;
-        self.do_line(task, ready)
+        let ready = self.find(task)?.ready_to_advance()?;
+        self.do_line(ready)
     }
 }

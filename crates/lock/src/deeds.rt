@@ -1,10 +1,12 @@
 // The one deed of a line, done on the memory or the queue.
+ghost use Rattle.std.specs.Prelude.{◌≡◌};
+ghost use Rattle.lines.specs.declared.deed.Found.TheVariants.{Nothing as found_nothing, Number as found_number, Answer as found_answer};
 ghost use Rattle.lock.specs.Performed.{Performed, Touched};
 
 use calls::refusal::Refusal;
 use lines::deed::{Deed, Found};
 use memory::interface::Memory;
-use memory::operation::Operation;
+use memory::operation::{Operation, Reply};
 use queue::interface::Queue;
 
 // What a deed found, and its share of the cost.
@@ -12,6 +14,39 @@ use queue::interface::Queue;
 pub struct Told {
     pub found: Found,
     pub share: u32,
+}
+
+impl From<Reply<u32>> for Told {
+    ghost from_gives = { λ reply told. told ≡ record { found = found_number reply.value; share = reply.share } };
+
+    fn from(reply: Reply<u32>) -> Told {
+        Told {
+            found: Found::Number(reply.value),
+            share: reply.share,
+        }
+    }
+}
+
+impl From<Reply<bool>> for Told {
+    ghost from_gives = { λ reply told. told ≡ record { found = found_answer reply.value; share = reply.share } };
+
+    fn from(reply: Reply<bool>) -> Told {
+        Told {
+            found: Found::Answer(reply.value),
+            share: reply.share,
+        }
+    }
+}
+
+impl From<Reply<()>> for Told {
+    ghost from_gives = { λ reply told. told ≡ record { found = found_nothing; share = reply.share } };
+
+    fn from(reply: Reply<()>) -> Told {
+        Told {
+            found: Found::Nothing,
+            share: reply.share,
+        }
+    }
 }
 
 // Does the deed for the task. A deed that touches no cell has a share of 0.
@@ -23,68 +58,32 @@ pub(crate) fn perform<M: Memory, Q: Queue>(
 ) -> Result<Told, Refusal>
     ensures { Performed M.Memory Q.Queue memory.old queue.old task deed result memory.new queue.new }
 {
-    match deed {
-        Deed::Touch(operation) => touch(memory, task, operation),
+    let found = match deed {
+        Deed::Touch(operation) => return touch(memory, task, operation),
         Deed::Join => {
             queue.join(task)?;
-            Ok(Told {
-                found: Found::Nothing,
-                share: 0,
-            })
+            Found::Nothing
         }
-        Deed::First => {
-            let oldest = queue.first(task)?;
-            Ok(Told {
-                found: Found::Answer(oldest),
-                share: 0,
-            })
-        }
+        Deed::First => Found::Answer(queue.first(task)?),
         Deed::Quit => {
             queue.quit(task)?;
-            Ok(Told {
-                found: Found::Nothing,
-                share: 0,
-            })
+            Found::Nothing
         }
-        Deed::Nothing => Ok(Told {
-            found: Found::Nothing,
-            share: 0,
-        }),
-    }
+        Deed::Nothing => Found::Nothing,
+    };
+    Ok(Told { found, share: 0 })
 }
 
 // The deeds on a cell.
 fn touch<M: Memory>(memory: &mut M, task: u32, operation: Operation) -> Result<Told, Refusal>
     ensures { Touched M.Memory memory.old task operation result memory.new }
 {
-    match operation {
-        Operation::Read(cell) => {
-            let reply = memory.read(task, cell)?;
-            Ok(Told {
-                found: Found::Number(reply.value),
-                share: reply.share,
-            })
-        }
-        Operation::Write(cell, number) => {
-            let reply = memory.write(task, cell, number)?;
-            Ok(Told {
-                found: Found::Nothing,
-                share: reply.share,
-            })
-        }
-        Operation::Add(cell, step) => {
-            let reply = memory.add(task, cell, step)?;
-            Ok(Told {
-                found: Found::Number(reply.value),
-                share: reply.share,
-            })
-        }
+    Ok(match operation {
+        Operation::Read(cell) => Told::from(memory.read(task, cell)?),
+        Operation::Write(cell, number) => Told::from(memory.write(task, cell, number)?),
+        Operation::Add(cell, step) => Told::from(memory.add(task, cell, step)?),
         Operation::Swap(cell, expected, new) => {
-            let reply = memory.swap(task, cell, expected, new)?;
-            Ok(Told {
-                found: Found::Answer(reply.value),
-                share: reply.share,
-            })
+            Told::from(memory.swap(task, cell, expected, new)?)
         }
-    }
+    })
 }

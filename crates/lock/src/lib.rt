@@ -15,5 +15,6 @@ pub mod records;
 pub mod rows;
 mod settling;
 pub mod spending;
+mod task;
 #[cfg(test)]
 mod tests;

@@ -1,6 +1,8 @@
 // How a lock is made, closed, and how it is opened to its tasks.
 ghost use Rattle.std.specs.Prelude.{◌≡◌, ◌≤◌, true, map, length, MatchResult};
-ghost use Rattle.calls.specs.Opening.{Wrote, are_roles, enlisted, opening_writes};
+ghost use Rattle.calls.specs.Opening.{Wrote, enlisted, opening_writes};
+ghost use Rattle.std.specs.List.{list_all};
+ghost use Rattle.lines.specs.Roles.{is_role};
 ghost use Rattle.lock.specs.Answers.{Asked};
 ghost use Rattle.lock.specs.View.{Opened, closed_over, open_refused, records_of, view};
 
@@ -13,26 +15,24 @@ use memory::cells::{C, D, GATE, PERMIT, U, V, X};
 use memory::interface::Memory;
 use queue::interface::Queue;
 
-// Whether each byte is a role, R or W.
-fn all_roles(roles: &[u8]) -> bool
-    ensures { result ≡ are_roles roles.now }
+fn is_role(byte: u8) -> bool
+    ensures { result ≡ is_role byte }
 {
-    for role in roles {
-        if *role != b'R' && *role != b'W' {
-            return false;
-        }
-    }
-    true
+    Role::try_from(byte).is_ok()
 }
 
-// The record of a task with this role that never began.
+// Whether each byte is a role, R or W.
+fn all_roles(roles: &[u8]) -> bool
+    ensures { result ≡ list_all is_role roles.now }
+{
+    roles.iter().all(|role| is_role(*role))
+}
+
+// The record of a task with this role that never began. A byte that is no role stands for a reader.
 fn enlist(role: u8) -> Record
     ensures { result ≡ enlisted role }
 {
-    match role {
-        b'W' => Record::new(Role::Writer),
-        _ => Record::new(Role::Reader),
-    }
+    Record::new(Role::try_from(role).unwrap_or(Role::Reader))
 }
 
 // The records of tasks with these roles, task 1 first.
@@ -41,6 +41,7 @@ fn enlist_all(roles: &[u8]) -> Records
     ensures { records_of result ≡ map enlisted roles.now }
 {
     let mut all = [Record::new(Role::Reader); 64];
+    // by index: over `iter_mut` the proof of what the array is afterwards did not close
     for (i, role) in roles.iter().enumerate() {
         all[i] = enlist(*role);
     }
@@ -75,7 +76,6 @@ impl<'a, M: Memory, Q: Queue> Lock<'a, M, Q> {
     {
         Lock {
             number,
-            opened: false,
             memory,
             queue,
             records: enlist_all(&[]),
@@ -84,10 +84,11 @@ impl<'a, M: Memory, Q: Queue> Lock<'a, M, Q> {
     }
 
     // The questions before opening.
+    #[tactic(auto, using(crate::proofs::Opened::each_role))]
     fn ask_open(&self, roles: &[u8]) -> Result<(), Refusal>
-        ensures { Asked (open_refused M.Memory Q.Queue self.now roles.now) result ((length roles.now ≤ 64) × (2 ≤ M.Memory.limit)) }
+        ensures { Asked (open_refused M.Memory Q.Queue self.now roles.now) result ((1 ≤ length roles.now) × (length roles.now ≤ 64) × (2 ≤ M.Memory.limit)) }
     {
-        if self.opened {
+        if self.is_open() {
             return Err(Refusal::Opened);
         }
         let n = roles.len();
@@ -117,7 +118,6 @@ impl<'a, M: Memory, Q: Queue> Lock<'a, M, Q> {
         self.ask_open(roles)?;
         set_cells(&mut self.memory)?;
         self.records = enlist_all(roles);
-        self.opened = true;
         Ok(())
     }
 }

@@ -1,38 +1,21 @@
 // Passes handed out and laid back.
-ghost use Rattle.std.specs.Prelude.{◌≡◌, ◌≤◌, true, length};
-ghost use Rattle.lines.specs.declared.place.Right.TheVariants.{Reading as reading, Writing as writing};
-ghost use Rattle.lines.specs.Rights.{same_right};
+ghost use Rattle.std.specs.Prelude.{◌≡◌, true, None, Some};
+ghost use Rattle.lines.specs.Rights.{right_of};
 ghost use Rattle.calls.specs.Questions.{out_for, pass_refusal, take_refusal};
+ghost use Rattle.calls.specs.Records.{with_out};
 ghost use Rattle.calls.specs.Steps.{lay_back, take};
 ghost use Rattle.lock.specs.Answers.{Asked, HandedBack, said, spent, taken};
-ghost use Rattle.lock.specs.View.{Does, Takes, record_at, records_of, view};
+ghost use Rattle.lock.specs.Tasks.{Given};
+ghost use Rattle.lock.specs.View.{Does, record_at, records_of, view};
 
 use crate::locks::Lock;
-use crate::pass::{Kept, ReadPass, WritePass};
+use crate::pass::{Bears, Kept, Pass};
+use crate::task::Task;
 use calls::record::Record;
 use calls::refusal::Refusal;
 use lines::place::Right;
 use memory::interface::Memory;
 use queue::interface::Queue;
-
-fn is_same(a: Right, b: Right) -> bool
-    ensures { result ≡ same_right a b }
-{
-    match (a, b) {
-        (Right::Reading, Right::Reading) | (Right::Writing, Right::Writing) => true,
-        (Right::Reading, Right::Writing) | (Right::Writing, Right::Reading) => false,
-    }
-}
-
-// Whether the pass that is out is for this right.
-fn is_for(out: Option<Right>, right: Right) -> bool
-    ensures { result ≡ out_for out right }
-{
-    match out {
-        Some(given) => is_same(given, right),
-        None => false,
-    }
-}
 
 // Whether a task that has this right, and this pass out, may take one for the right wanted.
 fn may_take(has: Option<Right>, out: Option<Right>, wanted: Right) -> Result<(), Refusal>
@@ -44,117 +27,85 @@ fn may_take(has: Option<Right>, out: Option<Right>, wanted: Right) -> Result<(),
     let None = out else {
         return Err(Refusal::PassOut);
     };
-    if !is_same(right, wanted) {
+    if right != wanted {
         return Err(Refusal::OtherRight);
     }
     Ok(())
 }
 
-impl<'a, M: Memory, Q: Queue> Lock<'a, M, Q> {
-    // The questions on the lock and a pass.
-    pub(crate) fn ask_pass(&self, right: Right, number: u32, task: u32) -> Result<(), Refusal>
-        ensures { Asked (pass_refusal (view M.Memory Q.Queue self.now) right number task) result ((1 ≤ task) × (task ≤ length (records_of self.now.records)) × (out_for (record_at (records_of self.now.records) task).out right ≡ true)) }
+impl Task {
+    // A pass for this right goes out to the task. Refused: 24, 25, 26.
+    fn hand_out(self, right: Right) -> Result<Task, Refusal>
+        ensures { Given (take_refusal (right_of self.state.track) self.state.out right) self.number (with_out self.state (Some right)) result (Unit {0}) }
     {
-        if !self.opened {
-            return Err(Refusal::Shut);
-        }
-        if number != self.number {
-            return Err(Refusal::OtherLock);
-        }
-        if task < 1 || task > self.records.count() {
-            return Err(Refusal::NoPass);
-        }
-        if !is_for(self.records.get(task).out, right) {
-            return Err(Refusal::NoPass);
-        }
-        Ok(())
+        may_take(self.state.track.right(), self.state.out, right)?;
+        Ok(Task {
+            number: self.number,
+            state: Record {
+                out: Some(right),
+                ..self.state
+            },
+        })
     }
 
-    // A pass for this right goes out to the task.
-    #[tactic(auto, using(crate::proofs::Ready::taken_in_order, crate::proofs::Ready::taken_sound))]
-    fn take(&mut self, right: Right, task: u32) -> Result<(), Refusal>
-        ensures { Takes M.Memory Q.Queue right task self.old result self.new }
+    // No pass is out to the task any more.
+    fn take_back(self) -> Task
+        ensures number { result.number ≡ self.number }
+        ensures state { result.state ≡ with_out self.state None }
     {
-        self.ask_task(task)?;
-        let record = self.records.get(task);
-        may_take(record.track.right(), record.out, right)?;
-        self.records.put(
-            task,
-            Record {
-                out: Some(right),
-                ..record
+        Task {
+            number: self.number,
+            state: Record {
+                out: None,
+                ..self.state
             },
-        );
-        Ok(())
+        }
+    }
+}
+
+impl<'a, M: Memory, Q: Queue> Lock<'a, M, Q> {
+    // The task that a pass names, where such a pass is out to it. Refused: 10, 27, 28.
+    pub(crate) fn holder<R: Bears>(&self, pass: &Pass<R>) -> Result<Task, Refusal>
+        ensures { let r = record_at (records_of self.now.records) pass.now.task in Given (pass_refusal (view M.Memory Q.Queue self.now) R.right pass.now.lock pass.now.task) pass.now.task r result (out_for r.out R.right ≡ true) }
+    {
+        if !self.is_open() {
+            return Err(Refusal::Shut);
+        }
+        if pass.lock != self.number {
+            return Err(Refusal::OtherLock);
+        }
+        let task = self.records.get(pass.task).ok_or(Refusal::NoPass)?;
+        if task.state.out != Some(R::which()) {
+            return Err(Refusal::NoPass);
+        }
+        Ok(task)
+    }
+
+    // Hands out a pass to a task that has the right which it bears. Refused: 10, 20, 24, 25, 26.
+    pub fn take<R: Bears>(&mut self, task: u32) -> Result<Pass<R>, Refusal>
+        ensures { Does M.Memory Q.Queue (take R.right task) self.old (taken R.right result) self.new }
+    {
+        let right = R::which();
+        let holder = self.find(task)?.hand_out(right)?;
+        self.records.put(holder);
+        Ok(Pass::new(self.number, task))
     }
 
     // The pass of the task comes back.
-    fn lay_back(&mut self, right: Right, number: u32, task: u32) -> Result<(), Refusal>
-        ensures { Does M.Memory Q.Queue (lay_back right number task) self.old (said result) self.new }
+    fn lay_back_by<R: Bears>(&mut self, pass: &Pass<R>) -> Result<(), Refusal>
+        ensures { Does M.Memory Q.Queue (lay_back R.right pass.now.lock pass.now.task) self.old (said result) self.new }
     {
-        self.ask_pass(right, number, task)?;
-        let record = self.records.get(task);
-        self.records.put(
-            task,
-            Record {
-                out: None,
-                ..record
-            },
-        );
+        let holder = self.holder(pass)?;
+        self.records.put(holder.take_back());
         Ok(())
     }
 
-    // Hands out a reading pass to a task that has the reading right. Refused: 10, 20, 24, 25, 26.
-    pub fn take_read(&mut self, task: u32) -> Result<ReadPass, Refusal>
-        ensures { Does M.Memory Q.Queue (take reading task) self.old (taken (λ p. (p.lock, p.task)) reading result) self.new }
-    {
-        match self.take(Right::Reading, task) {
-            Ok(()) => Ok(ReadPass {
-                lock: self.number,
-                task,
-            }),
-            Err(why) => Err(why),
-        }
-    }
-
-    // Hands out a writing pass to a task that has the writing right. Refused: 10, 20, 24, 25, 26.
-    pub fn take_write(&mut self, task: u32) -> Result<WritePass, Refusal>
-        ensures { Does M.Memory Q.Queue (take writing task) self.old (taken (λ p. (p.lock, p.task)) writing result) self.new }
-    {
-        match self.take(Right::Writing, task) {
-            Ok(()) => Ok(WritePass {
-                lock: self.number,
-                task,
-            }),
-            Err(why) => Err(why),
-        }
-    }
-
-    // Lays a reading pass back. Refused, and the pass comes back: 10, 27, 28.
-    pub fn lay_back_read(&mut self, pass: ReadPass) -> Result<(), Kept<ReadPass>>
-        ensures does { Does M.Memory Q.Queue (lay_back reading pass.lock pass.task) self.old (spent result) self.new }
+    // Lays a pass back. Refused, and the pass comes back: 10, 27, 28.
+    pub fn lay_back<R: Bears>(&mut self, pass: Pass<R>) -> Result<(), Kept<Pass<R>>>
+        ensures does { Does M.Memory Q.Queue (lay_back R.right pass.lock pass.task) self.old (spent result) self.new }
         ensures back { HandedBack pass result }
     {
-        match self.lay_back(Right::Reading, pass.lock, pass.task) {
-            Ok(()) => {
-                let ReadPass { lock: _, task: _ } = pass;
-                Ok(())
-            }
-            Err(why) => Err(Kept { pass, why }),
-        }
-    }
-
-    // Lays a writing pass back. Refused, and the pass comes back: 10, 27, 28.
-    pub fn lay_back_write(&mut self, pass: WritePass) -> Result<(), Kept<WritePass>>
-        ensures does { Does M.Memory Q.Queue (lay_back writing pass.lock pass.task) self.old (spent result) self.new }
-        ensures back { HandedBack pass result }
-    {
-        match self.lay_back(Right::Writing, pass.lock, pass.task) {
-            Ok(()) => {
-                let WritePass { lock: _, task: _ } = pass;
-                Ok(())
-            }
-            Err(why) => Err(Kept { pass, why }),
-        }
+        let made = self.lay_back_by(&pass);
+        pass.end_or_keep(made)
     }
 }

@@ -12,51 +12,50 @@ use memory::interface::Memory;
 use queue::interface::Queue;
 
 impl<'a, M: Memory, Q: Queue> Lock<'a, M, Q> {
+    // Whether the lock is open: one without tasks is closed.
+    pub(crate) fn is_open(&self) -> bool
+        ensures { result ≡ (view M.Memory Q.Queue self.now).opened }
+    {
+        self.records.count() > 0
+    }
+
     // What a task paid. Refused: 10, 20.
     pub fn account(&self, task: u32) -> Result<Account, Refusal>
         ensures { result ≡ account_told (view M.Memory Q.Queue self.now) task }
     {
-        self.ask_task(task)?;
-        Ok(self.records.get(task).account)
+        Ok(self.find(task)?.state.account)
     }
 
     // Where a task is. Refused: 10, 20.
     pub fn place(&self, task: u32) -> Result<Place, Refusal>
         ensures { result ≡ place_told (view M.Memory Q.Queue self.now) task }
     {
-        self.ask_task(task)?;
-        Ok(self.records.get(task).track.place)
+        Ok(self.find(task)?.state.track.place)
     }
 
     // The right that a task has, none where it is not inside. Refused: 10, 20.
     pub fn right(&self, task: u32) -> Result<Option<Right>, Refusal>
         ensures { result ≡ right_told (view M.Memory Q.Queue self.now) task }
     {
-        self.ask_task(task)?;
-        Ok(self.records.get(task).track.right())
+        Ok(self.find(task)?.state.track.right())
     }
 
     // The task with the greatest cost, the lowest of them. Refused: 10.
     pub fn costliest(&self) -> Result<u32, Refusal>
         ensures { result ≡ costliest_told (view M.Memory Q.Queue self.now) }
     {
-        if !self.opened {
-            return Err(Refusal::Shut);
-        }
-        match costliest(self.records.tasks()) {
-            Some(task) => Ok(task as u32),
-            None => Err(Refusal::Shut),
-        }
+        costliest(self.records.tasks())
+            .map(|task| task as u32)
+            .ok_or(Refusal::Shut)
     }
 
     // What a cell holds. Refused: 10, then the memory's 2.
     pub fn cell(&self, cell: u32) -> Result<u32, Refusal>
         ensures { result ≡ cell_told (view M.Memory Q.Queue self.now) cell }
     {
-        if !self.opened {
+        if !self.is_open() {
             return Err(Refusal::Shut);
         }
-        let number = self.memory.show(cell)?;
-        Ok(number)
+        Ok(self.memory.show(cell)?)
     }
 }

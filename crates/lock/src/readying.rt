@@ -1,50 +1,98 @@
-// A task's record made ready for the line of a call that spends a pass: it stands before that line, and the pass is no longer out.
+// A task made ready for the line of a call: it stands before that line, and a pass that was spent is no longer out.
 ghost use Rattle.std.specs.Prelude.{◌≡◌, true};
 ghost use Rattle.lines.specs.declared.place.Right.TheVariants.{Reading as reading, Writing as writing};
-ghost use Rattle.calls.specs.Questions.{out_for, upgrade_refusal};
-ghost use Rattle.calls.specs.Records.{downgrading, in_order, leaving, upgrading};
-ghost use Rattle.lock.specs.Ready.{Readied, Ready};
+ghost use Rattle.calls.specs.Questions.{advance_refusal, begin_refusal, out_for, upgrade_refusal};
+ghost use Rattle.calls.specs.Records.{begun, downgrading, leaving, upgrading};
+ghost use Rattle.lock.specs.Tasks.{Readied};
 
-use calls::record::Record;
+use crate::pass::Bears;
+use crate::task::{ReadyTask, Task};
 use calls::refusal::Refusal;
-use lines::place::{Line, Place, Right};
+use lines::place::{Line, Place};
 
-// An upgrade: line 27.1. Refused: 29.
-pub(crate) fn ready_to_upgrade(mut task: Record) -> Result<Record, Refusal>
-    requires ordered { in_order task ≡ true }
-    requires out { out_for task.out reading ≡ true }
-    ensures { Readied (upgrade_refusal task) (upgrading task) result }
-{
-    if task.account.u >= 1000 {
-        return Err(Refusal::Upgrades);
+impl Task {
+    // An attempt begins: line 16 for a reader and 0.1 for a writer. Refused: 21, 22.
+    pub(crate) fn ready_to_begin(self) -> Result<ReadyTask, Refusal>
+        ensures { Readied (begin_refusal self.state) self.number (begun self.state) result }
+    {
+        let Place::Rest = self.state.track.place else {
+            return Err(Refusal::Busy);
+        };
+        if self.state.account.finished >= 1000000 {
+            return Err(Refusal::Finished);
+        }
+        let mut state = self.state;
+        state.begin();
+        Ok(ReadyTask {
+            task: Task {
+                number: self.number,
+                state,
+            },
+        })
     }
-    task.account.u += 1;
-    task.track.place = Place::Next(Line::L27p1);
-    task.out = None;
-    Ok(task)
-}
 
-// A downgrade: line 25.1 or 28.1.
-pub(crate) fn ready_to_downgrade(mut task: Record) -> Record
-    requires ordered { in_order task ≡ true }
-    requires out { out_for task.out writing ≡ true }
-    ensures is { result ≡ downgrading task }
-    ensures ready { Ready result }
-{
-    task.account.g += 1;
-    task.track.place = Place::Next(task.track.downgrade_line());
-    task.out = None;
-    task
-}
+    // The next line. Refused: 23.
+    pub(crate) fn ready_to_advance(self) -> Result<ReadyTask, Refusal>
+        ensures { Readied (advance_refusal self.state) self.number self.state result }
+    {
+        match self.state.track.place {
+            Place::Next(_) => Ok(ReadyTask { task: self }),
+            Place::Rest | Place::Inside => Err(Refusal::OffLine),
+        }
+    }
 
-// A leave with a pass for this right: line 7, 23, 26.1 or 28.1.
-pub(crate) fn ready_to_leave(mut task: Record, right: Right) -> Record
-    requires ordered { in_order task ≡ true }
-    requires out { out_for task.out right ≡ true }
-    ensures is { result ≡ leaving task }
-    ensures ready { Ready result }
-{
-    task.track.place = Place::Next(task.track.leave_line());
-    task.out = None;
-    task
+    // An upgrade: line 27.1. Refused: 29.
+    pub(crate) fn ready_to_upgrade(self) -> Result<ReadyTask, Refusal>
+        requires { out_for self.state.out reading ≡ true }
+        ensures { Readied (upgrade_refusal self.state) self.number (upgrading self.state) result }
+    {
+        if self.state.account.u >= 1000 {
+            return Err(Refusal::Upgrades);
+        }
+        let mut state = self.state;
+        state.account.u += 1;
+        state.track.place = Place::Next(Line::L27p1);
+        state.out = None;
+        Ok(ReadyTask {
+            task: Task {
+                number: self.number,
+                state,
+            },
+        })
+    }
+
+    // A downgrade: line 25.1 or 28.1.
+    pub(crate) fn ready_to_downgrade(self) -> ReadyTask
+        requires { out_for self.state.out writing ≡ true }
+        ensures number { result.task.number ≡ self.number }
+        ensures state { result.task.state ≡ downgrading self.state }
+    {
+        let mut state = self.state;
+        state.account.g += 1;
+        state.track.place = Place::Next(state.track.downgrade_line());
+        state.out = None;
+        ReadyTask {
+            task: Task {
+                number: self.number,
+                state,
+            },
+        }
+    }
+
+    // A leave with a pass of this type: line 7, 23, 26.1 or 28.1.
+    pub(crate) fn ready_to_leave<R: Bears>(self) -> ReadyTask
+        requires { out_for self.state.out R.right ≡ true }
+        ensures number { result.task.number ≡ self.number }
+        ensures state { result.task.state ≡ leaving self.state }
+    {
+        let mut state = self.state;
+        state.track.place = Place::Next(state.track.leave_line());
+        state.out = None;
+        ReadyTask {
+            task: Task {
+                number: self.number,
+                state,
+            },
+        }
+    }
 }

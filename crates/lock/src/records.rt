@@ -1,6 +1,6 @@
 // The records of up to 64 tasks, by value.
 ghost use Rattle.std.specs.Prelude.{◌≡◌, ◌≤◌, true, length};
-ghost use Rattle.calls.specs.Records.{in_order, sound};
+ghost use Rattle.calls.specs.Records.{in_order};
 ghost use Rattle.std.specs.List.{list_all};
 
 use calls::record::Record;
@@ -12,6 +12,5 @@ pub struct Records {
     pub(crate) count: u32,
     ghost places: { length all ≡ 64 },
     ghost fits: { count ≤ 64 },
-    ghost adds: { list_all sound all ≡ true },
     ghost ordered: { list_all in_order all ≡ true },
 }

@@ -1,12 +1,11 @@
 // What a line that was done makes of its task's record.
-ghost use Rattle.std.specs.Prelude.{◌≡◌, ◌*◌, ◌<◌, ◌≤◌, true};
+ghost use Rattle.std.specs.Prelude.{◌≡◌, ◌*◌, ◌<◌, ◌≤◌};
 ghost use Rattle.calls.specs.Accounts.{closed};
-ghost use Rattle.calls.specs.Records.{arrived, in_order, settled, sound};
-ghost use Rattle.lock.specs.Ready.{Ready};
+ghost use Rattle.calls.specs.Records.{arrived, settled};
 
+use crate::deeds::Told;
+use crate::task::{ReadyTask, Task};
 use calls::account::Account;
-use calls::record::Record;
-use lines::deed::Found;
 use lines::place::Place;
 
 // The attempt is finished. Its task had a finish left when it began.
@@ -30,14 +29,19 @@ fn arrive(account: &mut Account, place: Place)
     }
 }
 
-// The next line was done: what it found, and its share.
-pub(crate) fn settle(task: &mut Record, found: Found, share: u32)
-    requires { Ready task.old }
-    ensures settled { task.new ≡ settled task.old found share }
-    ensures sound { sound task.new ≡ true }
-    ensures ordered { in_order task.new ≡ true }
-{
-    task.track.step(found);
-    task.account.charge(share);
-    arrive(&mut task.account, task.track.place);
+impl ReadyTask {
+    // The next line was done, and this is what was told of it.
+    pub(crate) fn settle(self, told: Told) -> Task
+        ensures number { result.number ≡ self.task.number }
+        ensures state { result.state ≡ settled self.task.state told.found told.share }
+    {
+        let mut state = self.task.state;
+        state.track.step(told.found);
+        state.account.charge(told.share);
+        arrive(&mut state.account, state.track.place);
+        Task {
+            number: self.task.number,
+            state,
+        }
+    }
 }

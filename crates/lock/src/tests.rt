@@ -1,8 +1,7 @@
 // The lock under the cache: a lone reader and a lone writer, upgrades, downgrades and leaves, passes and rows, and each
 // refusal in the order of its questions and at its edge.
-use crate::ending::Pass;
 use crate::locks::Lock;
-use crate::pass::{Kept, ReadPass, WritePass};
+use crate::pass::{Kept, Pass, ReadPass, Reading, WritePass, Writing};
 use cache::layer::Cache;
 use calls::refusal::Refusal;
 use lines::place::{Line, Place, Right};
@@ -82,29 +81,29 @@ fn while_on_line(lock: &mut Lock<'_, Cache<Words>, Ring>, task: u32) -> Result<(
 
 // What upgrade answers for a task that has the reading right: the number of its refusal, or 0.
 fn upgrade(lock: &mut Lock<'_, Cache<Words>, Ring>, task: u32) -> u32 {
-    match lock.take_read(task) {
+    match lock.take::<Reading>(task) {
         Ok(pass) => refused_back(lock.upgrade(pass)),
         Err(why) => why.number(),
     }
 }
 
 fn downgrade(lock: &mut Lock<'_, Cache<Words>, Ring>, task: u32) -> u32 {
-    match lock.take_write(task) {
+    match lock.take::<Writing>(task) {
         Ok(pass) => refused_back(lock.downgrade(pass)),
         Err(why) => why.number(),
     }
 }
 
 fn leave_reading(lock: &mut Lock<'_, Cache<Words>, Ring>, task: u32) -> u32 {
-    match lock.take_read(task) {
-        Ok(pass) => refused_back(lock.leave_read(pass)),
+    match lock.take::<Reading>(task) {
+        Ok(pass) => refused_back(lock.leave(pass)),
         Err(why) => why.number(),
     }
 }
 
 fn leave_writing(lock: &mut Lock<'_, Cache<Words>, Ring>, task: u32) -> u32 {
-    match lock.take_write(task) {
-        Ok(pass) => refused_back(lock.leave_write(pass)),
+    match lock.take::<Writing>(task) {
+        Ok(pass) => refused_back(lock.leave(pass)),
         Err(why) => why.number(),
     }
 }
@@ -234,10 +233,10 @@ fn finished_attempts(rt: HostRuntime) -> Result<(), Fail> {
 // Calls with a pass ask for the lock first, then for its number, then whether the pass is out.
 fn with_a_pass(lock: &mut Lock<'_, Cache<Words>, Ring>, number: u32, task: u32) -> [u32; 4] {
     [
-        refused_back(lock.upgrade(ReadPass { lock: number, task })),
-        refused_back(lock.downgrade(WritePass { lock: number, task })),
-        refused_back(lock.leave_read(ReadPass { lock: number, task })),
-        refused_back(lock.leave_write(WritePass { lock: number, task })),
+        refused_back(lock.upgrade(ReadPass::new(number, task))),
+        refused_back(lock.downgrade(WritePass::new(number, task))),
+        refused_back(lock.leave(ReadPass::new(number, task))),
+        refused_back(lock.leave(WritePass::new(number, task))),
     ]
 }
 
@@ -300,18 +299,18 @@ fn passes_of_a_reader(rt: HostRuntime) -> Result<(), Fail> {
     let mut lock = closed(&mut rows);
     lock.open(b"RW")?;
     lock.begin(1)?;
-    assert_eq!(rt; refusal_of(lock.take_read(1)), 24);
+    assert_eq!(rt; refusal_of(lock.take::<Reading>(1)), 24);
     for _ in 0..7 {
         lock.advance(1)?;
     }
-    assert_eq!(rt; refusal_of(lock.take_read(3)), 20);
-    assert_eq!(rt; refusal_of(lock.take_write(1)), 26);
+    assert_eq!(rt; refusal_of(lock.take::<Reading>(3)), 20);
+    assert_eq!(rt; refusal_of(lock.take::<Writing>(1)), 26);
     assert_eq!(rt; out_and_back(&mut lock), [25, 30, 0, 28]);
     Ok(())
 }
 
 // The number of the refusal, and 0 where a pass came, which then ends; only this crate can end one otherwise than by a call.
-fn refusal_of<P: Pass>(taken: Result<P, Refusal>) -> u32 {
+fn refusal_of<R>(taken: Result<Pass<R>, Refusal>) -> u32 {
     match taken {
         Ok(pass) => {
             pass.end();
@@ -323,21 +322,21 @@ fn refusal_of<P: Pass>(taken: Result<P, Refusal>) -> u32 {
 
 // What a second take answers, a read of row 16, laying the pass back, and laying back one that is not out.
 fn out_and_back(lock: &mut Lock<'_, Cache<Words>, Ring>) -> [u32; 4] {
-    let Ok(pass) = lock.take_read(1) else {
+    let Ok(pass) = lock.take::<Reading>(1) else {
         return [99; 4];
     };
-    let second = refusal_of(lock.take_read(1));
+    let second = refusal_of(lock.take::<Reading>(1));
     let row = match lock.read(&pass, 16) {
         Ok(_) => 0,
         Err(why) => why.number(),
     };
-    let back = refused_back(lock.lay_back_read(pass));
-    let forged = ReadPass { lock: 1, task: 1 };
-    [second, row, back, refused_back(lock.lay_back_read(forged))]
+    let back = refused_back(lock.lay_back(pass));
+    let forged = ReadPass::new(1, 1);
+    [second, row, back, refused_back(lock.lay_back(forged))]
 }
 
 // The number of the refusal of laying back, and 0 where it was obeyed.
-fn refused_back<P: Pass>(laid: Result<(), Kept<P>>) -> u32 {
+fn refused_back<R>(laid: Result<(), Kept<Pass<R>>>) -> u32 {
     match laid {
         Ok(()) => 0,
         Err(kept) => {
@@ -363,7 +362,7 @@ fn rows_of_a_writer(rt: HostRuntime) -> Result<(), Fail> {
 }
 
 fn row_of(lock: &Lock<'_, Cache<Words>, Ring>, pass: &WritePass, row: usize) -> u32 {
-    match lock.read_writing(pass, row) {
+    match lock.read(pass, row) {
         Ok(Some(thickness)) => thickness,
         Ok(None) => 0,
         Err(why) => why.number(),
@@ -371,11 +370,11 @@ fn row_of(lock: &Lock<'_, Cache<Words>, Ring>, pass: &WritePass, row: usize) -> 
 }
 
 fn rows_read(lock: &mut Lock<'_, Cache<Words>, Ring>) -> [u32; 8] {
-    let Ok(pass) = lock.take_write(1) else {
+    let Ok(pass) = lock.take::<Writing>(1) else {
         return [99; 8];
     };
-    let other = WritePass { lock: 2, task: 1 };
-    let nobody = WritePass { lock: 1, task: 2 };
+    let other = WritePass::new(2, 1);
+    let nobody = WritePass::new(1, 2);
     let told = [
         row_of(lock, &pass, 0),
         row_of(lock, &pass, 1),
@@ -384,7 +383,7 @@ fn rows_read(lock: &mut Lock<'_, Cache<Words>, Ring>) -> [u32; 8] {
         row_of(lock, &pass, 4),
         row_of(lock, &other, 0),
         row_of(lock, &nobody, 0),
-        refused_back(lock.lay_back_write(pass)),
+        refused_back(lock.lay_back(pass)),
     ];
     other.end();
     nobody.end();
