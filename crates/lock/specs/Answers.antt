@@ -16,11 +16,6 @@ abbrev pub Asked : Option Refusal → Result (Unit {0}) Refusal → Type 0 → T
 Asked o (Ok _) P = (o ≡ None) × P
 Asked o (Err e) P = o ≡ Some e
 
--- questions were asked, and x is given; P is then known
-abbrev pub Given : {A : Type 0} → Option Refusal → A → Result A Refusal → Type 0 → Type 0
-Given o x (Ok r) P = (o ≡ None) × (r ≡ x) × P
-Given o x (Err e) P = o ≡ Some e
-
 -- a pass for this right was handed out
 abbrev pub taken : {R : Type 0} → Right → Result (Pass R) Refusal → Answer
 taken w (Ok p) = hands w p.lock p.task
