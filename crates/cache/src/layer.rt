@@ -12,7 +12,7 @@ use crate::copies::Copies;
 use memory::interface::{Memory, known_cell, place};
 use memory::operation::{Reply, Step};
 use memory::refusal::Refusal;
-use sets::tasks::TaskSet;
+use sets::tasks::{contains, count, with_task};
 
 #[derive(Drop)]
 pub struct Cache<M> {
@@ -28,9 +28,7 @@ impl<M: Memory> Cache<M> {
     {
         Cache {
             below,
-            copies: Copies {
-                masks: [TaskSet::new(); 7],
-            },
+            copies: Copies { masks: [0; 7] },
         }
     }
 
@@ -39,7 +37,7 @@ impl<M: Memory> Cache<M> {
         ensures { result ≡ copies_counted self.now.copies.masks cell }
     {
         known_cell(cell)?;
-        Ok(self.copies.masks[cell as usize].count())
+        Ok(count(self.copies.masks[cell as usize]))
     }
 }
 
@@ -77,24 +75,24 @@ impl<M: Memory> Memory for Cache<M> {
     fn read(&mut self, task: u32, cell: u32) -> Result<Reply<u32>, Refusal> {
         place(task, cell)?;
         let held = self.copies.masks[cell as usize];
-        if held.contains(task) {
+        if contains(held, task) {
             let value = self.below.show(cell)?;
             return Ok(Reply { value, share: 0 });
         }
         let reply = self.below.read(task, cell)?;
-        self.copies.masks[cell as usize] = held.with(task);
+        self.copies.masks[cell as usize] = with_task(held, task);
         Ok(reply)
     }
 
     fn write(&mut self, task: u32, cell: u32, number: u32) -> Result<Reply<()>, Refusal> {
         let reply = self.below.write(task, cell, number)?;
-        self.copies.masks[cell as usize] = TaskSet::new();
+        self.copies.masks[cell as usize] = 0;
         Ok(reply)
     }
 
     fn add(&mut self, task: u32, cell: u32, step: Step) -> Result<Reply<u32>, Refusal> {
         let reply = self.below.add(task, cell, step)?;
-        self.copies.masks[cell as usize] = TaskSet::new();
+        self.copies.masks[cell as usize] = 0;
         Ok(reply)
     }
 
@@ -106,7 +104,7 @@ impl<M: Memory> Memory for Cache<M> {
         new: u32,
     ) -> Result<Reply<bool>, Refusal> {
         let reply = self.below.swap(task, cell, expected, new)?;
-        self.copies.masks[cell as usize] = TaskSet::new();
+        self.copies.masks[cell as usize] = 0;
         Ok(reply)
     }
 }

@@ -7,14 +7,14 @@ ghost use Rattle.masks.specs.Sets.{Kept, waiting_of};
 
 use crate::strike::strike;
 use queue::order::Order;
-use sets::tasks::TaskSet;
+use sets::tasks::{contains, count, with_task, without_task};
 
 #[derive(Clone, Copy)]
 pub struct Masks {
     // at place t - 1 the set of those before the task t, where t waits
-    before: [TaskSet; 64],
+    before: [u64; 64],
     // the set of those that wait
-    who: TaskSet,
+    who: u64,
     ghost places: { length before ≡ 64 },
     // the sets are those of a list of tasks in which none waits twice
     ghost kept: { Kept before who (waiting_of before who) },
@@ -26,8 +26,8 @@ impl Masks {
         ensures { waiting_of result.before result.who ≡ [] }
     {
         Masks {
-            before: [TaskSet::new(); 64],
-            who: TaskSet::new(),
+            before: [0; 64],
+            who: 0,
         }
     }
 }
@@ -36,24 +36,24 @@ impl Order for Masks {
     ghost tasks = { λ s. waiting_of s.before s.who };
 
     fn is_waiting(&self, task: u32) -> bool {
-        self.who.contains(task)
+        contains(self.who, task)
     }
 
     fn is_oldest(&self, task: u32) -> bool {
-        self.who.contains(task) && self.before[task as usize - 1].is_empty()
+        contains(self.who, task) && self.before[task as usize - 1] == 0
     }
 
     fn append(&mut self, task: u32) {
         self.before[task as usize - 1] = self.who;
-        self.who = self.who.with(task);
+        self.who = with_task(self.who, task);
     }
 
     fn remove(&mut self, task: u32) {
         strike(&mut self.before, task);
-        self.who = self.who.without(task);
+        self.who = without_task(self.who, task);
     }
 
     fn held(&self) -> u32 {
-        self.who.count()
+        count(self.who)
     }
 }

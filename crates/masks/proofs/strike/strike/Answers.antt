@@ -10,5 +10,5 @@ loop-set-preserved c =
     let xs = c.args.sets.now in
     let ys = c.loop-set.sets in
     let i = c.loop-set.set-index in
-    let x = get_or ys i c.set-item.result in
-    ap (set ys i) c.without.ensures ∙ map_over_more (λ m. taken_out m c.args.task) xs ys i x c.loop-set-test.true c.loop-set.invariant (get_or_default ys i c.set-item.result x (omega (arith, c.loop-set.auto.sets)))
+    let x = get_or ys i 0 in
+    ap (set ys i) c.without_task.ensures ∙ map_over_more (λ m. taken_out m c.args.task) xs ys i x c.loop-set-test.true c.loop-set.invariant (get_or_default ys i 0 x (omega (arith, c.loop-set.auto.sets)))

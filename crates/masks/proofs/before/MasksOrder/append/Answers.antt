@@ -6,9 +6,9 @@ use Rattle.masks.proofs.before.MasksOrder.append.Goals as goal
 pub invariant_of-self : goal.invariant_of-self
 invariant_of-self c =
     let s = c.args.self.now in
-    record { places = search rules; kept = (kept_put_in s.before s.who c.args.task c.with-self.result s.places s.kept c.requires.low c.requires.high c.requires.absent c.with-self.ensures.value).1 }
+    record { places = search rules; kept = (kept_put_in s.before s.who c.args.task c.with_task-self.result s.places s.kept c.requires.low c.requires.high c.requires.absent c.with_task-self.ensures.value).1 }
 
 pub returns : goal.returns
 returns c =
     let s = c.args.self.now in
-    (kept_put_in s.before s.who c.args.task c.with-self.result s.places s.kept c.requires.low c.requires.high c.requires.absent c.with-self.ensures.value).0
+    (kept_put_in s.before s.who c.args.task c.with_task-self.result s.places s.kept c.requires.low c.requires.high c.requires.absent c.with_task-self.ensures.value).0

@@ -1,6 +1,5 @@
 -- The oldest is the one in the set of who waits that has nobody before it.
-use Rattle.std.proofs.Common.{ℕ, ◌-◌, ◌<◌, Bool, ◌&&◌, eqb, length, ap, ◌∙◌, rules}
-use Rattle.std.proofs.lemmas.List.{get_or_default}
+use Rattle.std.proofs.Common.{Bool, ◌&&◌, eqb, ap, ◌∙◌}
 use Rattle.masks.specs.Sets.{waiting_of, set_before}
 use Rattle.masks.proofs.Kept.{contained_oldest}
 use Rattle.masks.proofs.before.MasksOrder.is_oldest.Goals as goal
@@ -8,8 +7,7 @@ use Rattle.masks.proofs.before.MasksOrder.is_oldest.Goals as goal
 pub returns-then-contains : goal.returns-then-contains
 returns-then-contains c =
     let s = c.args.self.now in
-    let inside : c.args.task - 1 < length s.before = search rules in
-    c.is_empty.ensures ∙ ap (λ (n : ℕ). eqb n 0) (get_or_default s.before (c.args.task - 1) c.index-self-task.result 0 inside) ∙ ap (λ (b : Bool). b && eqb (set_before s.before c.args.task) 0) c.if-contains.ensures ∙ contained_oldest s.before s.who (waiting_of s.before s.who) c.args.task s.kept
+    ap (λ (b : Bool). b && eqb (set_before s.before c.args.task) 0) c.if-contains.ensures ∙ contained_oldest s.before s.who (waiting_of s.before s.who) c.args.task s.kept
 
 pub returns-else-contains : goal.returns-else-contains
 returns-else-contains c =

@@ -6,9 +6,9 @@ use Rattle.masks.proofs.before.MasksOrder.remove.Goals as goal
 pub invariant_of-self : goal.invariant_of-self
 invariant_of-self c =
     let s = c.args.self.now in
-    record { places = search rules; kept = (kept_quit s.before c.strike.new.sets s.who c.args.task c.without-self.result s.places s.kept c.requires c.strike.ensures c.without-self.ensures).1 }
+    record { places = search rules; kept = (kept_quit s.before c.strike.new.sets s.who c.args.task c.without_task-self.result s.places s.kept c.requires c.strike.ensures c.without_task-self.ensures).1 }
 
 pub returns : goal.returns
 returns c =
     let s = c.args.self.now in
-    (kept_quit s.before c.strike.new.sets s.who c.args.task c.without-self.result s.places s.kept c.requires c.strike.ensures c.without-self.ensures).0
+    (kept_quit s.before c.strike.new.sets s.who c.args.task c.without_task-self.result s.places s.kept c.requires c.strike.ensures c.without_task-self.ensures).0
