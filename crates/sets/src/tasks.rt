@@ -1,6 +1,7 @@
 // Sets of tasks, asked with any number: one that is no task's is in no set, and
-// neither put in nor taken out. A set is a bare number: of a struct with `impl Model`
-// in the arrays of the cache layer and of Masks, callers that move those get no proof.
+// neither put in nor taken out. A set is a bare number and no struct: where the cache
+// layer and Masks hold an array of a struct with `impl Model`, code above that moves
+// them gets no proof.
 ghost use Rattle.std.specs.Prelude.{◌≡◌, ◌+◌, ◌-◌, ◌^◌, true, false};
 ghost use Rattle.sets.specs.Sets.{holds, is_task, bit, contained, put_in, taken_out, count_to, Joins};
 
