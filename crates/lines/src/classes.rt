@@ -36,7 +36,7 @@ impl Line {
             | Line::L21
             | Line::L22
             | Line::L22p1
-            | Line::L22p2 => matches!(role, Role::Reader),
+            | Line::L22p2 => role == Role::Reader,
             Line::L25p2 | Line::L25p3 => true,
             Line::L27p2 | Line::L27p3 | Line::L27p4 | Line::L27p5 => true,
             Line::Down28p2 | Line::L28p2 | Line::L29p2 => true,
@@ -91,7 +91,7 @@ impl Track {
     {
         match self.place {
             Place::Rest => false,
-            Place::Inside => matches!(self.standing, Standing::Upgraded),
+            Place::Inside => self.standing == Standing::Upgraded,
             Place::Next(line) => line.has_upgraded(),
         }
     }
@@ -102,7 +102,7 @@ impl Track {
     {
         match self.place {
             Place::Rest => false,
-            Place::Inside => matches!(self.standing, Standing::Upgraded),
+            Place::Inside => self.standing == Standing::Upgraded,
             Place::Next(line) => line.is_upgrading(),
         }
     }
@@ -121,6 +121,6 @@ impl Track {
     pub fn may_write(&self) -> bool
         ensures { result ≡ may_write self.now }
     {
-        matches!(self.right(), Some(Right::Writing))
+        self.right() == Some(Right::Writing)
     }
 }

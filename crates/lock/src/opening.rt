@@ -112,6 +112,7 @@ impl<'a, M: Memory, Q: Queue> Lock<'a, M, Q> {
     }
 
     // Opens the lock to tasks with these roles, a byte R or W for each. Refused: 11 to 16.
+    // (Bytes, since whoever calls may have any: those that are no roles are refused.)
     pub fn open(&mut self, roles: &[u8]) -> Result<(), Refusal>
         ensures { Opened M.Memory Q.Queue self.old roles.now result self.new }
     {

@@ -21,12 +21,10 @@ use queue::interface::Queue;
 fn may_take(has: Option<Right>, out: Option<Right>, wanted: Right) -> Result<(), Refusal>
     ensures { Asked (take_refusal has out wanted) result (Unit {0}) }
 {
-    let Some(right) = has else {
-        return Err(Refusal::Outside);
-    };
-    let None = out else {
+    let right = has.ok_or(Refusal::Outside)?;
+    if out.is_some() {
         return Err(Refusal::PassOut);
-    };
+    }
     if right != wanted {
         return Err(Refusal::OtherRight);
     }
@@ -39,12 +37,13 @@ impl Task {
         ensures { Given (take_refusal (right_of self.state.track) self.state.out right) self.number (with_out self.state (Some right)) result (Unit {0}) }
     {
         may_take(self.state.track.right(), self.state.out, right)?;
+        let state = Record {
+            out: Some(right),
+            ..self.state
+        };
         Ok(Task {
             number: self.number,
-            state: Record {
-                out: Some(right),
-                ..self.state
-            },
+            state,
         })
     }
 
@@ -53,12 +52,13 @@ impl Task {
         ensures number { result.number ≡ self.number }
         ensures state { result.state ≡ with_out self.state None }
     {
+        let state = Record {
+            out: None,
+            ..self.state
+        };
         Task {
             number: self.number,
-            state: Record {
-                out: None,
-                ..self.state
-            },
+            state,
         }
     }
 }

@@ -5,7 +5,8 @@ ghost use Rattle.std.specs.List.{list_all};
 
 use calls::record::Record;
 
-// The first `count` are in use, that of task 1 first.
+// The first `count` are in use, that of task 1 first. An array and a count, since nothing here is on the
+// heap, and the library's `ArrayVec` fills its free places with a default, which no role and no task has.
 #[derive(Clone, Copy)]
 pub struct Records {
     pub(crate) all: [Record; 64],

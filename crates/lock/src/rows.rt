@@ -11,16 +11,6 @@ use calls::refusal::Refusal;
 use memory::interface::Memory;
 use queue::interface::Queue;
 
-// Whether a table with so many rows has this one.
-fn has_row(row: usize, rows: usize) -> Result<(), Refusal>
-    ensures { Asked (row_refusal row rows) result (row < rows) }
-{
-    if row >= rows {
-        return Err(Refusal::NoRow);
-    }
-    Ok(())
-}
-
 // A row's answer: a thickness, or nothing where nobody has measured the rib. Refused: 32.
 fn answer_of(number: u32) -> Result<Option<u32>, Refusal>
     ensures { row_told result ≡ row_answer number }
@@ -40,7 +30,6 @@ impl<'a, M: Memory, Q: Queue> Lock<'a, M, Q> {
         ensures { Does M.Memory Q.Queue (read R.right pass.now.lock pass.now.task row) self.now (row_told result) self.now }
     {
         self.holder(pass)?;
-        has_row(row, self.table.len())?;
-        answer_of(self.table[row])
+        answer_of(*self.table.get(row).ok_or(Refusal::NoRow)?)
     }
 }

@@ -11,7 +11,7 @@ use sets::tasks::{contains, count, with_task, without_task};
 
 #[derive(Clone, Copy)]
 pub struct Masks {
-    // at place t - 1 the set of those before the task t, where t waits
+    // at place t - 1 the set of those before the task t, where t waits: one for each task is what this queue is
     before: [u64; 64],
     // the set of those that wait
     who: u64,

@@ -13,6 +13,7 @@ use crate::cells::COUNT;
 use crate::operation::{Reply, Step};
 use crate::refusal::Refusal;
 
+// Task, cell and numbers come one by one, as whoever calls has them: any numbers, which are asked here.
 pub trait Memory {
     // the largest number that a cell holds
     const LIMIT: u32;

@@ -11,7 +11,7 @@ use crate::order::Order;
 
 #[derive(Clone, Copy)]
 pub struct Ring {
-    // an array with a start and a count, since nothing here is on the heap
+    // an array with a start and a count: a ring is what this queue is, by value and not on the heap
     numbers: [u32; 64],
     // the place of the oldest
     start: usize,

@@ -60,9 +60,7 @@ impl<'b, 'a, W: Memory, P: Memory, R: Queue, K: Queue> Desk<'b, 'a, W, P, R, K> 
     pub fn answer(&mut self, call: Call<'_>) -> Result<Answer, Refusal>
         ensures { DeskTells W.Memory P.Memory R.Queue K.Queue self.old (ask call.entry) result self.new }
     {
-        let Some(pair) = pair_of(self.chosen, call) else {
-            return Err(Refusal::Shut);
-        };
+        let pair = pair_of(self.chosen, call).ok_or(Refusal::Shut)?;
         let told = self.answer_at(pair, call)?;
         self.chosen = Some(pair);
         Ok(told)

@@ -66,8 +66,7 @@ impl<'s, 'b, 'a, W: Memory, P: Memory, R: Queue, K: Queue> Schedule<'s, 'b, 'a, 
         if out.len() < ROOM {
             return Err(Refusal::Line(script::refusal::Refusal::Room));
         }
-        if let Some(why) = self.untold {
-            self.untold = None;
+        if let Some(why) = self.untold.take() {
             return Ok(put_refusal(out, 0, Refusal::Line(why)));
         }
         let Some(text) = self.reader.next_line() else {

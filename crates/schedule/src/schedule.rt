@@ -1,5 +1,7 @@
 // A schedule that is being run: its text, and the desk where its calls are made.
-ghost use Rattle.std.specs.Prelude.{◌≤◌, length};
+ghost use Rattle.std.specs.Prelude.{◌≡◌, ◌≤◌, length, Some};
+ghost use Rattle.script.specs.declared.refusal.Refusal.{Refusal as LineRefusal};
+ghost use Rattle.script.specs.declared.refusal.Refusal.TheVariants.{Length};
 
 use crate::desk::Desk;
 use script::reader::Reader;
@@ -12,4 +14,6 @@ pub struct Schedule<'s, 'b, 'a, W, P, R, K> {
     pub(crate) untold: Option<script::refusal::Refusal>,
     pub(crate) desk: Desk<'b, 'a, W, P, R, K>,
     ghost short: { length reader.input.now ≤ 65536 },
+    // the one reason is that it is too long
+    ghost reason: { (e : LineRefusal) → untold ≡ Some e → e ≡ Length },
 }

@@ -47,7 +47,7 @@ impl TryFrom<&[u8]> for QueueKind {
 
 #[derive(Clone, Copy, PartialEq, Eq, Debug)]
 pub enum Call<'a> {
-    // a lock over a memory and a queue, with a role for each task
+    // a lock over a memory and a queue, with a role for each task (as bytes, which may be no roles)
     Open(MemoryKind, QueueKind, &'a [u8]),
     // each with its task
     Begin(u32),

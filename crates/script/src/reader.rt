@@ -3,6 +3,7 @@
 // least one byte, so the count never passes the place, whatever the input's length.
 ghost use Rattle.std.specs.Prelude.{◌≡◌, ◌≤◌, length};
 
+// The whole input and a place in it, so that lines are parts of the input and nothing is copied.
 #[derive(Drop)]
 pub struct Reader<'a> {
     pub(crate) input: &'a [u8],

@@ -9,6 +9,7 @@ returns g c =
     let line = c.in-Some-next_line.ensures in
     let given = c.in-Some-next_line.text.now in
     let told : s.untold ≡ None = search rules in
+    let still : c.take.new.self ≡ None = search rules in
     let fits : length given ≤ 65536 = omega (arith, line.short, s.short) in
     let bytes = c.put_reply.ensures.short 65536 (omega arith) (within_more c.obey-reply.result (length given) 65536 fits c.obey-reply.ensures.part) in
-    (omega arith, did_line g.W.Memory g.P.Memory g.R.Queue g.K.Queue s _ c.args.out.now _ told given (heard c.obey-reply.result) c.put_reply.result c.number-number.result line.first line.counted c.number-number.ensures.value told c.obey-reply.ensures.does c.put_reply.ensures.line (omega (arith, bytes)))
+    (omega arith, did_line g.W.Memory g.P.Memory g.R.Queue g.K.Queue s _ c.args.out.now _ told given (heard c.obey-reply.result) c.put_reply.result c.number-number.result line.first line.counted c.number-number.ensures.value still c.obey-reply.ensures.does c.put_reply.ensures.line (omega (arith, bytes)))
