@@ -22,7 +22,7 @@ pub(crate) struct Census {
 }
 
 impl Census {
-    // Of these tasks.
+    // Of these tasks, at most 64: the slice may come from anywhere, so no type says it.
     pub(crate) fn of(tasks: &[Record]) -> Census
         requires { length tasks.now ≤ 64 }
         ensures { result ≡ census_of tasks.now }

@@ -16,6 +16,7 @@ pub struct Told {
     pub share: u32,
 }
 
+// What a memory told, by what it gives: each of the three is another kind of finding.
 impl From<Reply<u32>> for Told {
     ghost from_gives = { λ reply told. told ≡ record { found = found_number reply.value; share = reply.share } };
 

@@ -10,6 +10,8 @@ use crate::task::{ReadyTask, Task};
 use calls::refusal::Refusal;
 use lines::place::{Line, Place};
 
+// Which pass is out to a task is asked for in a clause of each call that spends one, and is no invariant of a
+// type, since that could not speak of the right of a type parameter.
 impl Task {
     // An attempt begins: line 16 for a reader and 0.1 for a writer. Refused: 21, 22.
     pub(crate) fn ready_to_begin(self) -> Result<ReadyTask, Refusal>

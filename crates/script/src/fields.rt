@@ -38,7 +38,7 @@ impl<'a> Fields<'a> {
         Ok(field)
     }
 
-    // No field is left.
+    // No field is left. (A match, since here what is there is refused and what is not is well.)
     pub(crate) fn end(self) -> Result<(), Refusal>
         ensures { result ≡ ended (left self.entry) }
     {
