@@ -1,7 +1,7 @@
 -- What a listing tells of an answer.
-use Rattle.std.specs.Prelude.{ℕ, List, [], ◌∷◌, ◌++◌, decimal}
+use Rattle.std.specs.Prelude.{ℕ, List, [], ◌∷◌, ◌++◌, Some, None, decimal, Option}
 use Rattle.listing.specs.declared.answer.Answer.{Answer}
-use Rattle.listing.specs.declared.answer.Answer.TheVariants.{Opened, Moved, Refused}
+use Rattle.listing.specs.declared.answer.Answer.TheVariants.{Opened, Moved, Row, Refused}
 use Rattle.listing.specs.declared.answer.Place.{Place}
 use Rattle.listing.specs.declared.answer.Place.TheVariants.{Rest, Reading, Writing, At}
 
@@ -25,7 +25,13 @@ place Reading = 114 ∷ []
 place Writing = 119 ∷ []
 place (At n) = decimal n
 
+-- "absent", or the thickness
+abbrev pub thickness : Option ℕ → List ℕ
+thickness None = 97 ∷ 98 ∷ 115 ∷ 101 ∷ 110 ∷ 116 ∷ []
+thickness (Some n) = decimal n
+
 abbrev pub told : Answer → List ℕ
 told (Opened tasks) = ok ++ decimal tasks
 told (Moved p cost) = ok ++ place p ++ space ++ decimal cost
+told (Row p cost row) = ok ++ place p ++ space ++ decimal cost ++ space ++ thickness row
 told (Refused why) = no ++ decimal why

@@ -30,6 +30,18 @@ fn answers(rt: HostRuntime) -> Result<(), Fail> {
         Answer::Moved(Place::Writing, 4294967295),
         b"7 ok w 4294967295\n",
     )?;
+    shows(
+        &rt,
+        8,
+        Answer::Row(Place::Reading, 7, None),
+        b"8 ok r 7 absent\n",
+    )?;
+    shows(
+        &rt,
+        9,
+        Answer::Row(Place::Writing, 10, Some(1000000)),
+        b"9 ok w 10 1000000\n",
+    )?;
     shows(&rt, 0, Answer::Refused(43), b"0 no 43\n")
 }
 

@@ -4,8 +4,9 @@ ghost use Rattle.calls.specs.Questions.{task_refusal};
 ghost use Rattle.calls.specs.Told.{told};
 ghost use Rattle.lock.specs.View.{view};
 ghost use Rattle.script.specs.Calls.{ask};
-ghost use Rattle.schedule.specs.Answers.{OpensTo, Tells, place_shown, task_shown};
+ghost use Rattle.schedule.specs.Answers.{OpensTo, Tells, place_shown, row_shown, task_shown};
 
+use crate::passes::{downgrade, leave, read, upgrade};
 use calls::refusal::Refusal;
 use lines::place::{Place, Right};
 use listing::answer::{Answer, Place as Shown};
@@ -27,13 +28,30 @@ fn shown(place: Place, right: Option<Right>) -> Shown
 }
 
 // The place and the cost of a task.
-fn moved<M: Memory, Q: Queue>(lock: &Lock<'_, M, Q>, task: u32) -> Result<Answer, Refusal>
+pub(crate) fn moved<M: Memory, Q: Queue>(
+    lock: &Lock<'_, M, Q>,
+    task: u32,
+) -> Result<Answer, Refusal>
     ensures { result ≡ told (task_refusal (view M.Memory Q.Queue lock.now) task) (task_shown (view M.Memory Q.Queue lock.now) task) }
 {
     let place = lock.place(task)?;
     let right = lock.right(task)?;
     let account = lock.account(task)?;
     Ok(Answer::Moved(shown(place, right), account.cost))
+}
+
+// The same, and what a row gave.
+pub(crate) fn row_told<M: Memory, Q: Queue>(
+    lock: &Lock<'_, M, Q>,
+    task: u32,
+    row: Option<u32>,
+) -> Result<Answer, Refusal>
+    ensures { result ≡ told (task_refusal (view M.Memory Q.Queue lock.now) task) (row_shown (view M.Memory Q.Queue lock.now) task row) }
+{
+    let place = lock.place(task)?;
+    let right = lock.right(task)?;
+    let account = lock.account(task)?;
+    Ok(Answer::Row(shown(place, right), account.cost, row))
 }
 
 // Open, and how many tasks there then are.
@@ -61,5 +79,9 @@ pub(crate) fn answer<M: Memory, Q: Queue>(
             lock.advance(task)?;
             moved(lock, task)
         }
+        Call::Upgrade(task) => upgrade(lock, task),
+        Call::Downgrade(task) => downgrade(lock, task),
+        Call::Leave(task) => leave(lock, task),
+        Call::Read(task, row) => read(lock, task, row),
     }
 }

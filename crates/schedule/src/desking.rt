@@ -20,7 +20,7 @@ fn pair_of(chosen: Option<Pair>, call: Call<'_>) -> Option<Pair>
     match (chosen, call) {
         (Some(pair), _) => Some(pair),
         (None, Call::Open(memory, queue, _)) => Some(Pair { memory, queue }),
-        (None, Call::Begin(_) | Call::Advance(_)) => None,
+        (None, _) => None,
     }
 }
 

@@ -6,6 +6,7 @@ mod answers;
 pub mod desk;
 pub mod desking;
 mod obeying;
+mod passes;
 pub mod refusal;
 pub mod running;
 pub mod schedule;

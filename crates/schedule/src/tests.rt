@@ -113,7 +113,7 @@ fn refusals(rt: HostRuntime) -> Result<(), Fail> {
     )?;
     lists(
         &rt,
-        b"O w r R\nE 2\nE 1\nE 1\nS 2\nU 1\nO x r R\n",
+        b"O w r R\nE 2\nE 1\nE 1\nS 2\nu 1\nO x r R\n",
         b"1 ok 1\n2 no 20\n3 ok 161 1\n4 no 21\n5 no 20\n6 no 40\n7 no 41\n",
     )?;
     lists(

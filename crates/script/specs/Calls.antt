@@ -11,13 +11,17 @@ use Rattle.script.specs.declared.call.Line.TheVariants as lines
 use Rattle.script.specs.declared.refusal.Refusal.{Refusal}
 use Rattle.script.specs.declared.refusal.Refusal.TheVariants as why
 use Rattle.script.specs.Cuts.{fields}
-use Rattle.script.specs.Numbers.{one}
+use Rattle.script.specs.Numbers.{one, two}
 
 -- a call, with the roles as bytes
 pub data Ask : Type 0 where
   opening : MemoryKind → QueueKind → List ℕ → Ask
   begin : ℕ → Ask
   advance : ℕ → Ask
+  upgrade : ℕ → Ask
+  downgrade : ℕ → Ask
+  leave : ℕ → Ask
+  read : (task row : ℕ) → Ask
 
 pub data Said : Type 0 where
   blank : Said
@@ -54,9 +58,12 @@ opened (m ∷ q ∷ []) = Err why.Fields
 opened (m ∷ q ∷ roles ∷ []) = opens (memory_kind m) (queue_kind q) roles
 opened (m ∷ q ∷ roles ∷ f ∷ fs) = Err why.Fields
 
--- the call that the letter names, with its fields: O, E or S
+-- the call that the letter names, with its fields: O, E, S, U, D, L or R
 abbrev pub called : ℕ → List (List ℕ) → Result Ask Refusal
-called c fs = cond (c == 79) (opened fs) (cond (c == 69) (over begin (one fs)) (cond (c == 83) (over advance (one fs)) (Err why.Letter)))
+called c fs =
+    cond (c == 79) (opened fs) (cond (c == 69) (over begin (one fs)) (cond (c == 83) (over advance (one fs)) (
+    cond (c == 85) (over upgrade (one fs)) (cond (c == 68) (over downgrade (one fs)) (cond (c == 76) (over leave (one fs)) (
+    cond (c == 82) (over (λ x. read x.0 x.1) (two fs)) (Err why.Letter)))))))
 
 -- the fields after the letter, if a space follows it
 abbrev pub arguments : List ℕ → List (List ℕ)
@@ -71,6 +78,10 @@ abbrev pub ask : Call → Ask
 ask (calls.Open m q roles) = opening m q roles.now
 ask (calls.Begin t) = begin t
 ask (calls.Advance t) = advance t
+ask (calls.Upgrade t) = upgrade t
+ask (calls.Downgrade t) = downgrade t
+ask (calls.Leave t) = leave t
+ask (calls.Read t row) = read t row
 
 abbrev pub said : Line → Said
 said lines.Blank = blank

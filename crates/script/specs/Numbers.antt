@@ -26,3 +26,16 @@ abbrev pub one : List (List ℕ) → Result ℕ Refusal
 one [] = Err why.Fields
 one (a ∷ []) = cond (numeral a) (bounded a) (Err why.Fields)
 one (a ∷ b ∷ fs) = Err why.Fields
+
+-- both numbers, unless one is too large
+abbrev pub pair : Result ℕ Refusal → Result ℕ Refusal → Result (ℕ × ℕ) Refusal
+pair (Ok m) (Ok n) = Ok (m, n)
+pair (Ok m) (Err e) = Err e
+pair (Err e) n = Err e
+
+-- the fields are two numbers and nothing else
+abbrev pub two : List (List ℕ) → Result (ℕ × ℕ) Refusal
+two [] = Err why.Fields
+two (a ∷ []) = Err why.Fields
+two (a ∷ b ∷ []) = cond (numeral a && numeral b) (pair (bounded a) (bounded b)) (Err why.Fields)
+two (a ∷ b ∷ c ∷ fs) = Err why.Fields

@@ -52,6 +52,11 @@ pub enum Call<'a> {
     // each with its task
     Begin(u32),
     Advance(u32),
+    Upgrade(u32),
+    Downgrade(u32),
+    Leave(u32),
+    // a task and a row
+    Read(u32, u32),
 }
 
 #[derive(Clone, Copy, PartialEq, Eq, Debug)]

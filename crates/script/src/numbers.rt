@@ -2,7 +2,7 @@
 // line before the size of any number, so the two questions are functions of their own.
 ghost use Rattle.std.specs.Prelude.{◌≡◌};
 ghost use Rattle.script.specs.Fields.{left};
-ghost use Rattle.script.specs.Numbers.{numeral, bounded, one};
+ghost use Rattle.script.specs.Numbers.{numeral, bounded, one, two};
 
 use crate::fields::Fields;
 use crate::refusal::Refusal;
@@ -43,4 +43,17 @@ pub(crate) fn one_number(mut fields: Fields) -> Result<u32, Refusal>
         return Err(Refusal::Fields);
     }
     value_of(a)
+}
+
+// Two numbers and nothing else.
+pub(crate) fn two_numbers(mut fields: Fields) -> Result<(u32, u32), Refusal>
+    ensures { result ≡ two (left fields.entry) }
+{
+    let a = fields.next()?;
+    let b = fields.next()?;
+    fields.end()?;
+    if !(is_numeral(a) && is_numeral(b)) {
+        return Err(Refusal::Fields);
+    }
+    Ok((value_of(a)?, value_of(b)?))
 }

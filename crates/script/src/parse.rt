@@ -6,7 +6,7 @@ ghost use Rattle.script.specs.Fields.{left};
 
 use crate::call::{Call, Line, MemoryKind, QueueKind};
 use crate::fields::Fields;
-use crate::numbers::one_number;
+use crate::numbers::{one_number, two_numbers};
 use crate::refusal::Refusal;
 
 // A memory, a queue and roles, and nothing else.
@@ -32,6 +32,13 @@ fn call_of<'a>(letter: char, fields: Fields<'a>) -> Result<Call<'a>, Refusal>
         'O' => opening(fields),
         'E' => Ok(Call::Begin(one_number(fields)?)),
         'S' => Ok(Call::Advance(one_number(fields)?)),
+        'U' => Ok(Call::Upgrade(one_number(fields)?)),
+        'D' => Ok(Call::Downgrade(one_number(fields)?)),
+        'L' => Ok(Call::Leave(one_number(fields)?)),
+        'R' => {
+            let (task, row) = two_numbers(fields)?;
+            Ok(Call::Read(task, row))
+        }
         _ => Err(Refusal::Letter),
     }
 }

@@ -24,7 +24,7 @@ fn all_refused(rt: &impl Abort, lines: &[&[u8]], number: u32) {
 fn letters(rt: HostRuntime) {
     all_refused(
         &rt,
-        &[b"e 1", b" ", b"   ", b"\r", b" E 1", b"U 1", b"P 1 2 3"],
+        &[b"e 1", b" ", b"   ", b"\r", b" E 1", b"u 1", b"P 1 2 3"],
         40,
     );
 }
@@ -65,6 +65,23 @@ fn numerals(rt: HostRuntime) {
         &[b"E 99999999999 01", b"E 0999999999999999999999999"],
         41,
     );
+    all_refused(
+        &rt,
+        &[
+            b"U",
+            b"D 1 2",
+            b"L ",
+            b"R 1",
+            b"R 1 2 3",
+            b"R 99999999999 01",
+        ],
+        41,
+    );
+    all_refused(
+        &rt,
+        &[b"U 4294967296", b"R 4294967296 1", b"R 1 4294967296"],
+        42,
+    );
 }
 
 #[test]
@@ -77,6 +94,10 @@ fn accepted(rt: HostRuntime) {
         parse_line(b"S 4294967295"),
         Ok(Line::Call(Call::Advance(4294967295)))
     );
+    assert_eq!(rt; parse_line(b"U 1"), Ok(Line::Call(Call::Upgrade(1))));
+    assert_eq!(rt; parse_line(b"D 2"), Ok(Line::Call(Call::Downgrade(2))));
+    assert_eq!(rt; parse_line(b"L 3"), Ok(Line::Call(Call::Leave(3))));
+    assert_eq!(rt; parse_line(b"R 4 15"), Ok(Line::Call(Call::Read(4, 15))));
     let opened = Call::Open(MemoryKind::Words, QueueKind::Ring, b"x\r#");
     assert_eq!(rt; parse_line(b"O w r x\r#"), Ok(Line::Call(opened)));
 }

@@ -1,0 +1,125 @@
+// The calls of a schedule that need a pass: it is taken first, and what is left of it is laid back.
+ghost use Rattle.std.specs.Prelude.{◌≡◌, true, false, None as nothing};
+ghost use Rattle.lines.specs.declared.place.Right.TheVariants.{Reading as reading, Writing as writing};
+ghost use Rattle.calls.specs.Questions.{pass_refusal};
+ghost use Rattle.calls.specs.Steps.{done, downgrade as line_downgrade, lay_back, leave as line_leave, read as row_read, upgrade as line_upgrade};
+ghost use Rattle.calls.specs.Told.{right_told};
+ghost use Rattle.lock.specs.View.{Does, view};
+ghost use Rattle.schedule.specs.Answers.{ByRight, TakesAndUses};
+
+use crate::answers::{moved, row_told};
+use calls::refusal::Refusal;
+use lines::place::Right;
+use listing::answer::Answer;
+use lock::locks::Lock;
+use lock::pass::{Bears, Kept, Pass, Reading, Writing};
+use memory::interface::Memory;
+use queue::interface::Queue;
+
+// A pass that is out is laid back.
+fn put_back<M: Memory, Q: Queue, R: Bears>(lock: &mut Lock<'_, M, Q>, pass: Pass<R>)
+    requires { pass_refusal (view M.Memory Q.Queue lock.old) R.right pass.lock pass.task ≡ nothing }
+    ensures { Does M.Memory Q.Queue (lay_back R.right pass.lock pass.task) lock.old done lock.new }
+{
+    match lock.lay_back(pass) {
+        Ok(()) => (),
+        Err(_) => unreachable(),
+    }
+}
+
+// Upgrade, and where the task then is.
+pub(crate) fn upgrade<M: Memory, Q: Queue>(
+    lock: &mut Lock<'_, M, Q>,
+    task: u32,
+) -> Result<Answer, Refusal>
+    ensures { TakesAndUses M.Memory Q.Queue reading task true (λ w. line_upgrade) lock.old result lock.new }
+{
+    let pass = lock.take::<Reading>(task)?;
+    match lock.upgrade(pass) {
+        Ok(()) => moved(lock, task),
+        Err(kept) => {
+            let Kept { pass, why } = kept;
+            put_back(lock, pass);
+            Err(why)
+        }
+    }
+}
+
+// Downgrade, and where the task then is.
+pub(crate) fn downgrade<M: Memory, Q: Queue>(
+    lock: &mut Lock<'_, M, Q>,
+    task: u32,
+) -> Result<Answer, Refusal>
+    ensures { TakesAndUses M.Memory Q.Queue writing task true (λ w. line_downgrade) lock.old result lock.new }
+{
+    let pass = lock.take::<Writing>(task)?;
+    match lock.downgrade(pass) {
+        Ok(()) => moved(lock, task),
+        Err(kept) => {
+            let Kept { pass, why } = kept;
+            put_back(lock, pass);
+            Err(why)
+        }
+    }
+}
+
+// Leave with a pass for this right, and where the task then is.
+fn leave_with<M: Memory, Q: Queue, R: Bears>(
+    lock: &mut Lock<'_, M, Q>,
+    task: u32,
+) -> Result<Answer, Refusal>
+    ensures { TakesAndUses M.Memory Q.Queue R.right task true line_leave lock.old result lock.new }
+{
+    let pass = lock.take::<R>(task)?;
+    match lock.leave(pass) {
+        Ok(()) => moved(lock, task),
+        Err(kept) => {
+            let Kept { pass, why } = kept;
+            put_back(lock, pass);
+            Err(why)
+        }
+    }
+}
+
+// Leave with whichever pass the task has.
+pub(crate) fn leave<M: Memory, Q: Queue>(
+    lock: &mut Lock<'_, M, Q>,
+    task: u32,
+) -> Result<Answer, Refusal>
+    ensures { ByRight M.Memory Q.Queue (right_told (view M.Memory Q.Queue lock.old) task) task true line_leave lock.old result lock.new }
+{
+    match lock.right(task)? {
+        Some(Right::Reading) => leave_with::<M, Q, Reading>(lock, task),
+        Some(Right::Writing) => leave_with::<M, Q, Writing>(lock, task),
+        None => Err(Refusal::Outside),
+    }
+}
+
+// A row, by a pass for this right.
+fn read_with<M: Memory, Q: Queue, R: Bears>(
+    lock: &mut Lock<'_, M, Q>,
+    task: u32,
+    row: u32,
+) -> Result<Answer, Refusal>
+    ensures { TakesAndUses M.Memory Q.Queue R.right task false (λ w k u. row_read w k u row) lock.old result lock.new }
+{
+    let pass = lock.take::<R>(task)?;
+    let given = lock.read(&pass, row as usize);
+    put_back(lock, pass);
+    row_told(lock, task, given?)
+}
+
+// A row, by whichever pass the task has.
+pub(crate) fn read<M: Memory, Q: Queue>(
+    lock: &mut Lock<'_, M, Q>,
+    task: u32,
+    row: u32,
+) -> Result<Answer, Refusal>
+    ensures { ByRight M.Memory Q.Queue (right_told (view M.Memory Q.Queue lock.old) task) task false (λ w k u. row_read w k u row) lock.old result lock.new }
+{
+    match lock.right(task)? {
+        Some(Right::Reading) => read_with::<M, Q, Reading>(lock, task, row),
+        Some(Right::Writing) => read_with::<M, Q, Writing>(lock, task, row),
+        None => Err(Refusal::Outside),
+    }
+}
