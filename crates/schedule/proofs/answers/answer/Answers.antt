@@ -7,3 +7,6 @@ pub returns-in_ok-advance-in-Advance : goal.returns-in_ok-advance-in-Advance
 returns-in_ok-advance-in-Advance g c =
     let d = c.in_ok-advance-in-Advance.ensures in
     rw c.in-Advance.is (Ok tt, d, c.moved-in-Advance.ensures ∙ told_all _ _ (advanced_task g.M.Memory.does g.M.Memory.limit _ _ _ _ c.in-Advance.task d.0))
+
+pub returns-in-Read : goal.returns-in-Read
+returns-in-Read g c = rw c.in-Read.is c.read.ensures
