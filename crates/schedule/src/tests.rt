@@ -93,6 +93,32 @@ fn waiting(rt: HostRuntime) -> Result<(), Fail> {
     )
 }
 
+// A reader alone is granted the writing right at cost 11, gives it up again, and leaves.
+#[test]
+fn upgrade_and_downgrade(rt: HostRuntime) -> Result<(), Fail> {
+    lists_on_each!(
+        &rt,
+        "RW\nE 1\nS 1\nS 1\nS 1\nS 1\nS 1\nS 1\nS 1\nU 1\nS 1\nS 1\nS 1\nS 1\nR 1 15\nD 1\nS 1\nR 1 16\nL 1\nS 1\nS 1\nS 1\nS 1\nE 1\n",
+        b"1 ok 2\n2 ok 161 1\n3 ok 170 2\n4 ok 180 3\n5 ok 190 4\n6 ok 200 4\n7 ok 210 5\n8 ok 221 6\n9 ok r 7\n10 ok 272 8\n11 ok 273 9\n12 ok 274 9\n13 ok 275 10\n14 ok w 11\n15 ok w 11 absent\n16 ok 282 12\n17 ok r 13\n18 no 30\n19 ok 90 14\n20 ok 100 14\n21 ok 110 14\n22 ok 120 15\n23 ok - 16\n24 ok 161 1\n"
+    )
+}
+
+// The letters that need a pass: of a task at rest, of none, and of a reader inside and on its way.
+#[test]
+fn passes(rt: HostRuntime) -> Result<(), Fail> {
+    lists(&rt, b"U 1\nR 1 0\n", b"1 no 10\n2 no 10\n")?;
+    lists_on_each!(
+        &rt,
+        "RW\nU 1\nD 1\nL 1\nR 1 0\nU 3\nR 0 0\n",
+        b"1 ok 2\n2 no 24\n3 no 24\n4 no 24\n5 no 24\n6 no 20\n7 no 20\n"
+    )?;
+    lists_on_each!(
+        &rt,
+        "R\nE 1\nS 1\nS 1\nS 1\nS 1\nS 1\nS 1\nS 1\nD 1\nR 1 16\nR 1 4294967295\nR 1 15\nU 1\nL 1\nR 1 0\n",
+        b"1 ok 1\n2 ok 161 1\n3 ok 170 2\n4 ok 180 3\n5 ok 190 4\n6 ok 200 4\n7 ok 210 5\n8 ok 221 6\n9 ok r 7\n10 no 26\n11 no 30\n12 no 30\n13 ok r 7 absent\n14 ok 272 8\n15 no 24\n16 no 24\n"
+    )
+}
+
 #[test]
 fn tasks_on_a_packed_memory(rt: HostRuntime) -> Result<(), Fail> {
     lists(
