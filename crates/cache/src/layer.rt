@@ -33,6 +33,7 @@ impl<M: Memory> Cache<M> {
     }
 
     // How many tasks hold a copy of a cell. Refused: 2.
+    // (Asked, and then an index: the question on a cell stands in one place.)
     pub fn holders(&self, cell: u32) -> Result<u32, Refusal>
         ensures { result ≡ copies_counted self.now.copies.masks cell }
     {

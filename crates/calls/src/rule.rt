@@ -19,7 +19,7 @@ pub enum Rule {
 }
 
 impl Rule {
-    // The published number of the rule.
+    // The published number of the rule: a cast of its own enum, which no generic function can make.
     pub fn number(self) -> u32
         ensures { result ≡ rule_number self }
     {

@@ -21,7 +21,7 @@ pub struct Track {
     pub curr: u32,
     // the number of D that a reader found
     pub d: u32,
-    // the number of X that a task found
+    // the number of X that a task found, 0 for none: no Option, since the published lines compare X and x with 0
     pub x: u32,
 }
 

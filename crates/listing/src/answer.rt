@@ -54,7 +54,7 @@ pub enum Answer {
     Moved(Place, u32),
     // the same, and a row's thickness, or nothing where nobody has measured the rib
     Row(Place, u32, Option<u32>),
-    // the number of the refusal, of whichever layer
+    // the number of the refusal, of whichever layer: any may be shown, so no enum
     Refused(u32),
 }
 

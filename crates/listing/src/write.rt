@@ -37,7 +37,7 @@ fn put(out: &mut [u8], head: &[u8], text: &[u8]) -> Option<usize>
 
 // Writes the line `number` of a listing, for a note, and tells how many bytes it
 // has, at most 12 more than the note; nothing where `out` has less room. (`out` and `number` come side
-// by side, here and above: the buffer is lent for one line, and a struct around both would hold the loan.)
+// by side, here and in what calls this: the buffer is lent for one line, and a struct around both would hold the loan.)
 pub fn put_note(out: &mut [u8], number: u32, text: &[u8]) -> Option<usize>
     ensures line { Put out.old (noted number text.now) result out.new }
     ensures short { length (noted number text.now) ≤ 12 + length text.now }

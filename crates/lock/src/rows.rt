@@ -12,6 +12,7 @@ use memory::interface::Memory;
 use queue::interface::Queue;
 
 // A row's answer: a thickness, or nothing where nobody has measured the rib. Refused: 32.
+// (The table is the toolkit's own, and has 0 for none.)
 fn answer_of(number: u32) -> Result<Option<u32>, Refusal>
     ensures { row_told result ≡ row_answer number }
 {

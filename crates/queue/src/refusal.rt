@@ -13,7 +13,7 @@ pub enum Refusal {
 }
 
 impl Refusal {
-    // The published number of the refusal.
+    // The published number of the refusal: a cast of its own enum, which no generic function can make.
     pub fn number(self) -> u32
         ensures { result ≡ refusal_number self }
     {

@@ -25,7 +25,8 @@ fn pair_of(chosen: Option<Pair>, call: Call<'_>) -> Option<Pair>
 }
 
 impl<'b, 'a, W: Memory, P: Memory, R: Queue, K: Queue> Desk<'b, 'a, W, P, R, K> {
-    // A desk over four locks, none of them chosen.
+    // A desk over four locks, none of them chosen. They come one by one, since all that a desk borrows is lent
+    // at one lifetime; a function that makes the desk first was tried, and the borrow checker does not cover it.
     pub fn new(
         words_ring: &'b mut Lock<'a, Cache<W>, R>,
         words_masks: &'b mut Lock<'a, Cache<W>, K>,

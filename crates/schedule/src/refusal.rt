@@ -10,7 +10,7 @@ pub enum Refusal {
 }
 
 impl Refusal {
-    // The published number of the refusal.
+    // The published number of the refusal, which the layer below has.
     pub fn number(self) -> u32
         ensures { result ≡ refusal_number self }
     {

@@ -18,7 +18,8 @@ fn is_numeral(field: &[u8]) -> bool
 }
 
 // The number that the digits of `field` say, if it has at most 32 bits.
-// A loop, since `try_fold` would need a closure with a contract of its own.
+// A loop, since `try_fold` would need a closure with a contract of its own, and `parse` of a `str` would have the
+// bytes checked as UTF-8 first.
 fn value_of(field: &[u8]) -> Result<u32, Refusal>
     ensures { result ≡ bounded field.now }
 {

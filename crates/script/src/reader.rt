@@ -3,7 +3,8 @@
 // least one byte, so the count never passes the place, whatever the input's length.
 ghost use Rattle.std.specs.Prelude.{◌≡◌, ◌≤◌, length};
 
-// The whole input and a place in it, so that lines are parts of the input and nothing is copied.
+// The whole input and a place in it: lines are parts of the input, nothing is copied, and `number` promises to
+// stay within the whole of it.
 #[derive(Drop)]
 pub struct Reader<'a> {
     pub(crate) input: &'a [u8],
