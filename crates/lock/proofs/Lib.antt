@@ -2,3 +2,5 @@ pub mod Kept
 pub mod Settled
 pub mod Done
 pub mod Opened
+pub mod Facts
+pub mod Keeps
