@@ -110,7 +110,7 @@ module _ {M : Type 0} (does : Doing M) (limit : ℕ) (s z : State) (m n : M) whe
 
 -- A pass that was taken.
 
-yes : (b : Bool) (e : Refusal) (o : Option Refusal) → ask b e o ≡ None → (b ≡ true) × (o ≡ None)
+pub yes : (b : Bool) (e : Refusal) (o : Option Refusal) → ask b e o ≡ None → (b ≡ true) × (o ≡ None)
 yes true e o h = (refl, h)
 yes false e o h = let z : ◌≡◌ {A = ℕ} 0 1 = cc in absurd (omega arith)
 

@@ -260,7 +260,7 @@ same_is Reading Writing h = let z : ◌≡◌ {A = ℕ} 0 1 = cc in absurd (omeg
 same_is Writing Reading h = let z : ◌≡◌ {A = ℕ} 0 1 = cc in absurd (omega arith)
 same_is Writing Writing h = refl
 
-has_out : (has out : Option Right) (w : Right) → pass_fits has out ≡ true → out_for out w ≡ true → has ≡ Some w
+pub has_out : (has out : Option Right) (w : Right) → pass_fits has out ≡ true → out_for out w ≡ true → has ≡ Some w
 has_out has None w h k = let z : ◌≡◌ {A = ℕ} 0 1 = cc in absurd (omega arith)
 has_out None (Some v) w h k = let z : ◌≡◌ {A = ℕ} 0 1 = cc in absurd (omega arith)
 has_out (Some u) (Some v) w h k = ap Some (same_is u v h ∙ same_is v w k)

@@ -2,3 +2,4 @@ pub mod View
 pub mod Tasks
 pub mod Performed
 pub mod Answers
+pub mod Runs
