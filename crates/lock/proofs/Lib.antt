@@ -6,3 +6,4 @@ pub mod Facts
 pub mod Keeps
 pub mod Holds
 pub mod Judged
+pub mod Allowed
