@@ -7,3 +7,4 @@ pub mod Keeps
 pub mod Holds
 pub mod Judged
 pub mod Allowed
+pub mod Lasting

@@ -57,16 +57,20 @@ abbrev afters : List Operation → List ℕ → List ℕ
 afters [] xs = xs
 afters (op ∷ ops) xs = afters ops (after op xs)
 
+-- seven numbers are those in the seven places
+pub seven_of : (xs : List ℕ) → length xs ≡ 7 → xs ≡ get_or xs 0 0 ∷ get_or xs 1 0 ∷ get_or xs 2 0 ∷ get_or xs 3 0 ∷ get_or xs 4 0 ∷ get_or xs 5 0 ∷ get_or xs 6 0 ∷ []
+seven_of [] e = absurd (omega arith)
+seven_of (a ∷ []) e = absurd (omega arith)
+seven_of (a ∷ b ∷ []) e = absurd (omega arith)
+seven_of (a ∷ b ∷ c ∷ []) e = absurd (omega arith)
+seven_of (a ∷ b ∷ c ∷ d ∷ []) e = absurd (omega arith)
+seven_of (a ∷ b ∷ c ∷ d ∷ f ∷ []) e = absurd (omega arith)
+seven_of (a ∷ b ∷ c ∷ d ∷ f ∷ g ∷ []) e = absurd (omega arith)
+seven_of (a ∷ b ∷ c ∷ d ∷ f ∷ g ∷ h ∷ []) e = refl
+seven_of (a ∷ b ∷ c ∷ d ∷ f ∷ g ∷ h ∷ k ∷ xs) e = absurd (omega arith)
+
 seven_written : (xs : List ℕ) → length xs ≡ 7 → afters opening_writes xs ≡ opening_cells
-seven_written [] e = absurd (omega arith)
-seven_written (a ∷ []) e = absurd (omega arith)
-seven_written (a ∷ b ∷ []) e = absurd (omega arith)
-seven_written (a ∷ b ∷ c ∷ []) e = absurd (omega arith)
-seven_written (a ∷ b ∷ c ∷ d ∷ []) e = absurd (omega arith)
-seven_written (a ∷ b ∷ c ∷ d ∷ f ∷ []) e = absurd (omega arith)
-seven_written (a ∷ b ∷ c ∷ d ∷ f ∷ g ∷ []) e = absurd (omega arith)
-seven_written (a ∷ b ∷ c ∷ d ∷ f ∷ g ∷ h ∷ []) e = refl
-seven_written (a ∷ b ∷ c ∷ d ∷ f ∷ g ∷ h ∷ k ∷ xs) e = absurd (omega arith)
+seven_written xs e = ap (afters opening_writes) (seven_of xs e)
 
 module _ {M : Type 0} (cells : M → List ℕ) (top : M → ℕ) (does : Doing M) (law : (s t : M) (task : ℕ) (op : Operation) (share : ℕ) → does s task op share t → Kept cells top s op share t) where
   wrote_cells : (ops : List Operation) (m n : M) → Wrote does m ops n → cells n ≡ afters ops (cells m)

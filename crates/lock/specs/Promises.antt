@@ -1,0 +1,86 @@
+-- What an opened lock promises. s is its state when it was opened and m its memory then; each promise speaks of every run from there.
+use Rattle.std.specs.Prelude.{◌≡◌, ℕ, ◌+◌, ◌*◌, ◌≤◌, false, List, [], ◌∷◌, length, map, Some, None, Ok, Option, ◌≢◌, ◌==◌, cond, slice_index}
+use Rattle.memory.specs.Calls.{Doing}
+use Rattle.lines.specs.declared.place.Right.{Right}
+use Rattle.lines.specs.declared.place.Right.TheVariants.{Reading, Writing}
+use Rattle.lines.specs.Classes.{in_section}
+use Rattle.lines.specs.Lines.{next_deed}
+use Rattle.lines.specs.Rights.{right_of}
+use Rattle.calls.specs.Checks.{state_checked}
+use Rattle.calls.specs.Questions.{pass_refusal, row_refusal}
+use Rattle.calls.specs.Refusals.{refusal_number}
+use Rattle.calls.specs.States.{State, record_of}
+use Rattle.calls.specs.Steps.{Answer, Call, Calls, Verdict, after_deed, at_once, done, gives, hands, judge, line, no, read, refuse, row_answer}
+use Rattle.lock.specs.Model.{model_run, unpaid}
+use Rattle.lock.specs.Rows.{last_put}
+use Rattle.lock.specs.Runs.{Made, Run, RunWhile}
+
+-- task t has the right w
+abbrev pub HasRight : State → ℕ → Right → Type 0
+HasRight z t w = right_of (record_of z t).track ≡ Some w
+
+-- a read of the row with this pass meets none of its questions, so no refusal but 32 can come of it
+abbrev pub MayRead : State → Right → ℕ → ℕ → ℕ → Type 0
+MayRead z w k t row = (pass_refusal z w k t ≡ None) × (row_refusal row (length z.table) ≡ None)
+
+-- a refusal is one of the lock's own questions: those of the memory and the queue have the numbers 1 to 6
+abbrev pub IsOwn : Answer → Type 0
+IsOwn done = Unit {0}
+IsOwn (hands w k t) = Unit {0}
+IsOwn (gives o) = Unit {0}
+IsOwn (no e) = 10 ≤ refusal_number e
+
+-- what the questions came to is what happens: a refusal leaves all as it was, a line that is due is done, an answer is given
+abbrev pub Obeyed : Verdict → State → Answer → State → Type 0
+Obeyed (refuse e) z a y = (a ≡ no e) × (y ≡ z)
+Obeyed (line t r) z a y = (a ≡ done) × ((share : ℕ) × (y ≡ after_deed t r (next_deed t r.track) share z))
+Obeyed (at_once b x) z a y = (a ≡ b) × (y ≡ x)
+
+module _ {M : Type 0} (does : Doing M) (limit : ℕ) (s : State) (m : M) where
+  -- P holds after every run: of the calls made, the state and the memory; with no calls, of the lock just opened
+  abbrev pub Always : (List Made → State → M → Type 0) → Type 0
+  Always P = (es : List Made) (z : State) (n : M) → Run does limit es s m z n → P es z n
+
+  -- exclusion: while a task has the writing right, no other task is in the section
+  abbrev pub Exclusion : Type 0
+  Exclusion = Always (λ es z n. (t u : ℕ) → 1 ≤ t → 1 ≤ u → t ≢ u → HasRight z t Writing → in_section (record_of z u).track ≡ false)
+
+  -- latest rows: a read answers by the number last put into the row, or by what stood there at opening if none was put
+  abbrev pub LatestRows : Type 0
+  LatestRows =
+      Always (λ es z n. (w : Right) (k t row : ℕ) (a : Answer) (y : State) (p : M) → MayRead z w k t row → Calls does limit (read w k t row) z n a y p →
+      a ≡ row_answer (last_put row es (slice_index s.table row)))
+
+  -- steady rows: two reads of a row by a task that has the reading right from the first to the second, after each call in between,
+  -- give one answer
+  abbrev pub SteadyRows : Type 0
+  SteadyRows =
+      Always (λ es z n. (w : Right) (k t row : ℕ) (a : Answer) (z' : State) (n' : M) → MayRead z w k t row → Calls does limit (read w k t row) z n a z' n' →
+      (ds : List Made) (y : State) (p : M) → RunWhile does limit (λ x. HasRight x t Reading) ds z' n' y p →
+      (v : Right) (j : ℕ) (b : Answer) (y' : State) (p' : M) → MayRead y v j t row → Calls does limit (read v j t row) y p b y' p' → b ≡ a)
+
+  -- obedience: neither memory nor queue ever refuses a call, and one that meets none of its own questions is obeyed
+  abbrev pub Obedience : Type 0
+  Obedience = Always (λ es z n. (c : Call) (a : Answer) (y : State) (p : M) → Calls does limit c z n a y p → IsOwn a × Obeyed (judge c z) z a y)
+
+  -- soundness: the check of the state finds no broken rule
+  abbrev pub Soundness : Type 0
+  Soundness = Always (λ es z n. state_checked z.cells z.records ≡ Ok None)
+
+  -- The lines decide: but for costs, the state is what the calls alone make of the opened one, whatever memory and queue, and
+  -- whatever they told.
+  abbrev pub LinesDecide : Type 0
+  LinesDecide = Always (λ es z n. unpaid z ≡ model_run es s)
+
+  -- The cost bound, for the ceiling top: no attempt of a task, running or finished, has cost more than 20 times the ceiling, 5 times
+  -- more for each upgrade and 2 times more for each downgrade obeyed in it.
+  abbrev pub CostBound : ℕ → Type 0
+  CostBound top = Always (λ es z n. (t : ℕ) → (record_of z t).account.cost ≤ top * (20 + 5 * (record_of z t).account.u + 2 * (record_of z t).account.g))
+
+  pub record Promised : Type 0 where
+    pub exclusion : Exclusion
+    pub latest_rows : LatestRows
+    pub steady_rows : SteadyRows
+    pub obedience : Obedience
+    pub soundness : Soundness
+    pub lines_decide : LinesDecide
