@@ -94,15 +94,16 @@ holds_same cs ws rs qs k g =
       distinct = g.distinct;
     }
 
+-- what f tells of the records is as it was, where one is replaced by one of which it tells the same
+pub each_same : {A : Type 0} (f : Record → A) (rs : List Record) (i : ℕ) (r : Record) → f r ≡ f (at rs i) → (j : ℕ) → f (at (set rs i r) j) ≡ f (at rs j)
+each_same f [] i r e j = refl
+each_same f (x ∷ rs) zero r e zero = e
+each_same f (x ∷ rs) zero r e (suc j) = refl
+each_same f (x ∷ rs) (suc i) r e zero = refl
+each_same f (x ∷ rs) (suc i) r e (suc j) = each_same f rs i r e j
+
 pub track_same : (rs : List Record) (i : ℕ) (r : Record) → r.track ≡ (at rs i).track → SameTracks rs (set rs i r)
-track_same rs i r e = record { count = length-set rs i r; each = each rs i r e }
-  where
-    each : (rs : List Record) (i : ℕ) (r : Record) → r.track ≡ (at rs i).track → (j : ℕ) → (at (set rs i r) j).track ≡ (at rs j).track
-    each [] i r e j = refl
-    each (x ∷ rs) zero r e zero = e
-    each (x ∷ rs) zero r e (suc j) = refl
-    each (x ∷ rs) (suc i) r e zero = refl
-    each (x ∷ rs) (suc i) r e (suc j) = each rs i r e j
+track_same rs i r e = record { count = length-set rs i r; each = each_same (λ (x : Record). x.track) rs i r e }
 
 -- a pass goes out or comes back
 pub pass_lawful : (s : State) (t : ℕ) (o : Option Right) → Lawful s → in_order (with_out (record_of s t) o) ≡ true → Lawful (with_record s t (with_out (record_of s t) o))

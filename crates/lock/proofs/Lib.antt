@@ -8,3 +8,4 @@ pub mod Holds
 pub mod Judged
 pub mod Allowed
 pub mod Lasting
+pub mod Meant

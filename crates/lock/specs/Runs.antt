@@ -1,6 +1,6 @@
 -- Runs: any calls, with any arguments, obeyed or refused, each on what those before it left. A pass is data here: its right, its
 -- lock number and its task, whether or not it was ever handed out.
-use Rattle.std.specs.Prelude.{◌≡◌, List, [], ◌∷◌}
+use Rattle.std.specs.Prelude.{◌≡◌, ℕ, List, [], ◌∷◌}
 use Rattle.memory.specs.Calls.{Doing}
 use Rattle.calls.specs.States.{State}
 use Rattle.calls.specs.Steps.{Answer, Call, Calls}
