@@ -9,3 +9,5 @@ pub mod Judged
 pub mod Allowed
 pub mod Lasting
 pub mod Meant
+pub mod Runs
+pub mod SoundRuns
