@@ -11,3 +11,5 @@ pub mod Lasting
 pub mod Meant
 pub mod Runs
 pub mod SoundRuns
+pub mod RowRuns
+pub mod Decided
