@@ -13,3 +13,4 @@ pub mod Runs
 pub mod SoundRuns
 pub mod RowRuns
 pub mod Decided
+pub mod Promised

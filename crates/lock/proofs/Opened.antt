@@ -1,5 +1,5 @@
 -- A lock that was opened.
-use Rattle.std.proofs.Common.{ltb, ◌&&◌, ◌≡◌, ℕ, zero, suc, ◌+◌, ◌<◌, ◌≤◌, Bool, true, List, [], ◌∷◌, ◌++◌, map, length, get_or, take, set, replicate, None, Ok, Option, sym, refl, ap, ◌∙◌, subst, arith}
+use Rattle.std.proofs.Common.{ltb, ◌&&◌, ◌≡◌, ℕ, zero, suc, ◌+◌, ◌<◌, ◌≤◌, Bool, true, List, [], ◌∷◌, ◌++◌, map, length, get_or, take, set, replicate, None, Ok, Result, Option, sym, refl, ap, ◌∙◌, subst, arith}
 use lib.ListN.{length-replicate}
 use Rattle.std.proofs.lemmas.List.{length-set, take_more_set, map_more, take_all}
 use Rattle.std.specs.List.{list_all}
@@ -77,10 +77,16 @@ module _ {M : Type 0} (cells : M → List ℕ) (top : M → ℕ) (does : Doing M
   wrote_cells [] m n e = ap cells e
   wrote_cells (op ∷ ops) m n (k, share, d, w) = wrote_cells ops k n w ∙ ap (afters ops) (law m k 1 op share d).0
 
-  -- no question was answered no, task 1 wrote, and the other fields are so
-  pub opens : (o : Option Refusal) (s z : State) (m n : M) (roles : List ℕ) → o ≡ None → Wrote does m opening_writes n → z.cells ≡ cells n → length (cells m) ≡ 7 →
-      z.number ≡ s.number → z.opened ≡ true → z.waiting ≡ s.waiting → z.records ≡ map enlisted roles → z.table ≡ s.table → Opens does o s m roles (Ok tt) z n
-  opens o s z m n roles asked w after seven number opened waiting records table =
+  -- task 1 wrote, and the other fields are so
+  pub opened_is : (s z : State) (m n : M) (roles : List ℕ) → Wrote does m opening_writes n → z.cells ≡ cells n → length (cells m) ≡ 7 →
+      z.number ≡ s.number → z.opened ≡ true → z.waiting ≡ s.waiting → z.records ≡ map enlisted roles → z.table ≡ s.table → z ≡ opened_to roles s
+  opened_is s z m n roles w after seven number opened waiting records table =
       let cells_are : z.cells ≡ opening_cells = after ∙ wrote_cells opening_writes m n w ∙ seven_written (cells m) seven in
-      let now : z ≡ opened_to roles s = λ i. record { number = number i; opened = opened i; cells = cells_are i; waiting = waiting i; records = records i; table = table i } in
-      subst (λ p. Opens does p s m roles (Ok tt) z n) (sym asked) (refl, w, now)
+      λ i. record { number = number i; opened = opened i; cells = cells_are i; waiting = waiting i; records = records i; table = table i }
+
+-- no question was answered no, and task 1 wrote
+pub opens : {M : Type 0} (does : Doing M) (o : Option Refusal) (s z : State) (m n : M) (roles : List ℕ) → o ≡ None → Wrote does m opening_writes n → z ≡ opened_to roles s → Opens does o s m roles (Ok tt) z n
+opens does o s z m n roles asked w now = subst (λ p. Opens does p s m roles (Ok tt) z n) (sym asked) (refl, w, now)
+
+pub opened_then : {M : Type 0} (does : Doing M) (o : Option Refusal) (s z : State) (m n : M) (roles : List ℕ) (r : Result (Unit {0}) Refusal) → o ≡ None → Opens does o s m roles r z n → z ≡ opened_to roles s
+opened_then does o s z m n roles r asked h = (subst (λ p. Opens does p s m roles r z n) asked h).2

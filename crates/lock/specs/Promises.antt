@@ -7,6 +7,7 @@ use Rattle.lines.specs.Classes.{in_section}
 use Rattle.lines.specs.Lines.{next_deed}
 use Rattle.lines.specs.Rights.{right_of}
 use Rattle.calls.specs.Checks.{state_checked}
+use Rattle.calls.specs.Opening.{enlisted, opening_cells}
 use Rattle.calls.specs.Questions.{pass_refusal, row_refusal}
 use Rattle.calls.specs.Refusals.{refusal_number}
 use Rattle.calls.specs.States.{State, record_of}
@@ -35,6 +36,10 @@ abbrev pub Obeyed : Verdict → State → Answer → State → Type 0
 Obeyed (refuse e) z a y = (a ≡ no e) × (y ≡ z)
 Obeyed (line t r) z a y = (a ≡ done) × ((share : ℕ) × (y ≡ after_deed t r (next_deed t r.track) share z))
 Obeyed (at_once b x) z a y = (a ≡ b) × (y ≡ x)
+
+-- the opened cells, an empty queue, and all tasks at rest
+abbrev pub Starts : List ℕ → State → Type 0
+Starts roles s = (s.cells ≡ opening_cells) × (s.waiting ≡ []) × (s.records ≡ map enlisted roles)
 
 module _ {M : Type 0} (does : Doing M) (limit : ℕ) (s : State) (m : M) where
   -- P holds after every run: of the calls made, the state and the memory; with no calls, of the lock just opened
@@ -77,7 +82,9 @@ module _ {M : Type 0} (does : Doing M) (limit : ℕ) (s : State) (m : M) where
   abbrev pub CostBound : ℕ → Type 0
   CostBound top = Always (λ es z n. (t : ℕ) → (record_of z t).account.cost ≤ top * (20 + 5 * (record_of z t).account.u + 2 * (record_of z t).account.g))
 
-  pub record Promised : Type 0 where
+  -- all of them, of a lock just opened with these roles
+  pub record Promised (roles : List ℕ) : Type 0 where
+    pub starts : Starts roles s
     pub exclusion : Exclusion
     pub latest_rows : LatestRows
     pub steady_rows : SteadyRows

@@ -1,9 +1,10 @@
 // How a lock is made, closed, and how it is opened to its tasks.
-ghost use Rattle.std.specs.Prelude.{◌≡◌, ◌≤◌, true, map, length, MatchResult};
+ghost use Rattle.std.specs.Prelude.{◌≡◌, ◌≤◌, true, map, length, IfOk, MatchResult};
 ghost use Rattle.calls.specs.Opening.{Wrote, enlisted, opening_writes};
 ghost use Rattle.std.specs.List.{list_all};
 ghost use Rattle.lines.specs.Roles.{is_role};
 ghost use Rattle.lock.specs.Answers.{Asked};
+ghost use Rattle.lock.specs.Promises.{Promised};
 ghost use Rattle.lock.specs.View.{Opened, closed_over, open_refused, records_of, view};
 
 use crate::locks::Lock;
@@ -111,10 +112,11 @@ impl<'a, M: Memory, Q: Queue> Lock<'a, M, Q> {
         Ok(())
     }
 
-    // Opens the lock to tasks with these roles, a byte R or W for each. Refused: 11 to 16.
+    // Opens the lock to tasks with these roles, a byte R or W for each, and promises what holds from then on. Refused: 11 to 16.
     // (Bytes, since whoever calls may have any: those that are no roles are refused.)
     pub fn open(&mut self, roles: &[u8]) -> Result<(), Refusal>
-        ensures { Opened M.Memory Q.Queue self.old roles.now result self.new }
+        ensures opens { Opened M.Memory Q.Queue self.old roles.now result self.new }
+        ensures promises { IfOk result (λ _. Promised M.Memory.does M.Memory.limit (view M.Memory Q.Queue self.new) self.new.memory roles.now) }
     {
         self.ask_open(roles)?;
         set_cells(&mut self.memory)?;

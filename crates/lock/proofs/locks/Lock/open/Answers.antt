@@ -1,12 +1,22 @@
 use Rattle.std.proofs.Common.{refl}
 use Rattle.lock.specs.View.{open_refused, view}
-use Rattle.lock.proofs.Opened.{open_with, opens}
+use Rattle.lock.proofs.Opened.{open_with, opened_is, opened_then, opens}
+use Rattle.lock.proofs.Promised.{opened_promises}
 use Rattle.lock.proofs.locks.Lock.open.Goals as goal
 
-pub returns : goal.returns
-returns g c =
+pub returns-clause-opens : goal.returns-clause-opens
+returns-clause-opens g c =
     let m = g.M.Memory in
     let s = c.args.self.now in
+    let roles = c.args.roles.now in
     let asked = c.in_ok-ask_open.ensures in
-    let opened = open_with _ c.args.roles.now c.enlist_all-self.ensures asked.1.0 in
-    (opens m.cells m.top m.does g.met.M.Memory.kept (open_refused m g.Q.Queue s c.args.roles.now) (view m g.Q.Queue s) _ s.memory _ c.args.roles.now asked.0 c.in_ok-set_cells.ensures refl (g.met.M.Memory.seven s.memory) refl opened refl c.enlist_all-self.ensures refl, refl)
+    let wrote = c.in_ok-set_cells.ensures in
+    let opened = open_with _ roles c.enlist_all-self.ensures asked.1.0 in
+    let now = opened_is m.cells m.top m.does g.met.M.Memory.kept (view m g.Q.Queue s) _ s.memory _ roles wrote refl (g.met.M.Memory.seven s.memory) refl opened refl c.enlist_all-self.ensures refl in
+    (opens m.does (open_refused m g.Q.Queue s roles) (view m g.Q.Queue s) _ s.memory _ roles asked.0 wrote now, refl)
+
+pub returns-clause-promises : goal.returns-clause-promises
+returns-clause-promises g c =
+    let m = g.M.Memory in
+    let asked = c.in_ok-ask_open.ensures in
+    opened_promises m.does m.limit (m.top c.args.self.now.memory) _ _ _ c.args.roles.now asked.0 (opened_then m.does _ _ _ _ _ c.args.roles.now _ asked.0 (returns-clause-opens g c).0)

@@ -1,0 +1,129 @@
+-- A lock just opened keeps every promise.
+use Rattle.std.proofs.Common.{◌≡◌, ℕ, zero, suc, ◌≤◌, Bool, true, not, eqb, leb, List, [], ◌∷◌, length, get_or, map, None, Option, sym, refl, ap, ◌∙◌, subst, arith}
+use Rattle.std.specs.List.{AllByRecursion as All}
+use Rattle.std.proofs.lemmas.Bool.{eqb-true, leb-true}
+use Rattle.memory.specs.Calls.{Doing}
+use Rattle.lines.specs.declared.place.Right.TheVariants.{Reading}
+use Rattle.lines.specs.declared.place.Role.{Role}
+use Rattle.lines.specs.declared.place.Role.TheVariants.{Reader, Writer}
+use Rattle.lines.specs.Classes.{has_upgraded, is_counted}
+use Rattle.lines.specs.Lines.{at_rest}
+use Rattle.lines.specs.Roles.{role_of}
+use Rattle.calls.specs.declared.record.Record.{Record}
+use Rattle.calls.specs.declared.refusal.Refusal.TheVariants.{Ceiling, Limit, Opened, Queued, Role as NotRole, Roles}
+use Rattle.calls.specs.Census.{tasks_that}
+use Rattle.calls.specs.Opening.{are_roles, enlisted, open_refusal, opened_to, opening_cells}
+use Rattle.calls.specs.Records.{fresh, in_order}
+use Rattle.calls.specs.States.{State}
+use Rattle.calls.specs.Steps.{row_answer}
+use Rattle.calls.proofs.Obeyed.{yes}
+use Rattle.calls.proofs.Sound.{fresh_in_order}
+use Rattle.lock.specs.Model.{model_run, unpaid, unpaid_record}
+use Rattle.lock.specs.Promises.{Promised, Starts}
+use Rattle.lock.specs.Runs.{Run}
+use Rattle.lock.proofs.Decided.{decided}
+use Rattle.lock.proofs.Facts.{OneTask, TwoTasks, seen, seen_cells}
+use Rattle.lock.proofs.Holds.{Holds, at}
+use Rattle.lock.proofs.Judged.{Lawful, pass_there}
+use Rattle.lock.proofs.RowRuns.{read_told, run_row, table_still}
+use Rattle.lock.proofs.Runs.{Able, call_able, call_kept, excluded, run_able}
+use Rattle.lock.proofs.SoundRuns.{unbroken}
+
+module _ {M : Type 0} (does : Doing M) (limit : ℕ) (s : State) (m : M) (roles : List ℕ) where
+  pub promised : Starts roles s → unpaid s ≡ s → Able limit s → Promised does limit s m roles
+  promised starts free g =
+      record {
+        starts = starts;
+        exclusion = λ es z n run t u low low' ne w. excluded z t u (run_able does limit _ es s z m n g run).lawful low low' ne w;
+        latest_rows = λ es z n run w k t row a y p may call. (read_told does limit z y n p w k t row a may call).0 ∙ ap row_answer (run_row does limit _ row es s z m n run);
+        steady_rows = λ es z n run w k t row a z' n' may call ds y p during v j b y' p' may' call'.
+            let g1 = run_able does limit _ es s z m n g run in
+            let low = (pass_there z w k t g1.lawful may.0).low in
+            let first = read_told does limit z z' n n' w k t row a may call in
+            let second = read_told does limit y y' p p' v j t row b may' call' in
+            let still = table_still does limit t ds z' y n' p (subst (Able limit) (sym first.1) g1) low during in
+            second.0 ∙ ap (λ xs. row_answer (get_or xs row 0)) (still ∙ ap (λ (x : State). x.table) first.1) ∙ sym first.0;
+        obedience = λ es z n run c a y p call. let k = call_kept does limit c z y n p a (run_able does limit _ es s z m n g run) call in (k.own, k.obeyed);
+        soundness = λ es z n run. unbroken z (run_able does limit _ es s z m n g run).lawful;
+        lines_decide = λ es z n run. decided does limit _ es s z m n g run ∙ ap (model_run es) free;
+      }
+
+-- The state of a lock just opened.
+
+at_first : (roles : List ℕ) (i : ℕ) → (o : Role) × (at (map enlisted roles) i ≡ fresh o)
+at_first [] i = (Reader, refl)
+at_first (b ∷ bs) zero = (role_of b, refl)
+at_first (b ∷ bs) (suc i) = at_first bs i
+
+count_first : (roles : List ℕ) → length (map enlisted roles) ≡ length roles
+count_first [] = refl
+count_first (b ∷ bs) = ap suc (count_first bs)
+
+none_counted : (roles : List ℕ) → tasks_that is_counted (map enlisted roles) ≡ 0
+none_counted [] = refl
+none_counted (b ∷ bs) = none_counted bs
+
+none_upgraded : (roles : List ℕ) → tasks_that has_upgraded (map enlisted roles) ≡ 0
+none_upgraded [] = refl
+none_upgraded (b ∷ bs) = none_upgraded bs
+
+one_at_rest : (i : ℕ) (o : Role) → OneTask (seen_cells opening_cells []) (seen i (at_rest o))
+one_at_rest i Reader = grind arith
+one_at_rest i Writer = grind arith
+
+two_at_rest : (i j : ℕ) (o p : Role) → TwoTasks (seen_cells opening_cells []) (seen i (at_rest o)) (seen j (at_rest p))
+two_at_rest i j o p = grind arith
+
+first_holds : (roles : List ℕ) → 1 ≤ length roles → Holds opening_cells [] (map enlisted roles)
+first_holds roles some =
+    record {
+      seven = refl;
+      count = sym (none_counted roles);
+      holders = none_upgraded roles;
+      x_cell = omega (arith, count_first roles);
+      x_register = λ i. rw (at_first roles i).1 (omega arith);
+      one = λ i. let (o, is) = at_first roles i in rw is (one_at_rest i o);
+      pair = λ i j n. let (o, is) = at_first roles i in let (p, is') = at_first roles j in rw (is, is') (two_at_rest i j o p);
+      waits = tt;
+      distinct = tt;
+    }
+
+first_free : (roles : List ℕ) → map unpaid_record (map enlisted roles) ≡ map enlisted roles
+first_free [] = refl
+first_free (b ∷ bs) = ap (λ ys. enlisted b ∷ ys) (first_free bs)
+
+no_one_waits : (ws : List ℕ) → length ws ≡ 0 → ws ≡ []
+no_one_waits [] e = refl
+no_one_waits (x ∷ xs) e = absurd (omega arith)
+
+-- what opening asked
+pub record Asked (limit : ℕ) (s : State) (roles : List ℕ) : Type 0 where
+  pub some : 1 ≤ length roles
+  pub few : length roles ≤ 64
+  pub two : 2 ≤ limit
+  pub fits : length roles ≤ limit
+  pub empty : s.waiting ≡ []
+
+pub asked : (limit ceiling : ℕ) (s : State) (roles : List ℕ) → open_refusal limit ceiling s roles ≡ None → Asked limit s roles
+asked limit ceiling s roles none =
+    let n = length roles in
+    let q1 = yes (not s.opened) Opened _ none in
+    let q2 = yes (leb 1 n) Roles _ q1.1 in
+    let q3 = yes (leb n 64) Roles _ q2.1 in
+    let q4 = yes (are_roles roles) NotRole _ q3.1 in
+    let q5 = yes (leb 2 limit) Limit _ q4.1 in
+    let q6 = yes (leb n limit) Limit _ q5.1 in
+    let q7 = yes (leb ceiling 1000) Ceiling _ q6.1 in
+    let q8 = yes (eqb (length s.waiting) 0) Queued None q7.1 in
+    record { some = leb-true 1 n q2.0; few = leb-true n 64 q3.0; two = leb-true 2 limit q5.0; fits = leb-true n limit q6.0; empty = no_one_waits s.waiting (eqb-true (length s.waiting) 0 q8.0) }
+
+module _ {M : Type 0} (does : Doing M) (limit ceiling : ℕ) (s z : State) (m : M) (roles : List ℕ) where
+  pub opened_promises : open_refusal limit ceiling s roles ≡ None → z ≡ opened_to roles s → Promised does limit z m roles
+  opened_promises none is =
+      let k = asked limit ceiling s roles none in
+      let first : State = record { number = s.number; opened = true; cells = opening_cells; waiting = []; records = map enlisted roles; table = s.table } in
+      let start : z ≡ first = is ∙ ap (λ ws. record { number = s.number; opened = true; cells = opening_cells; waiting = ws; records = map enlisted roles; table = s.table }) k.empty in
+      let lawful : Lawful first = record { opened = refl; some = omega (arith, count_first roles, k.some); few = omega (arith, count_first roles, k.few); ordered = λ i. let (o, is) = at_first roles i in ap in_order is ∙ fresh_in_order o; holds = first_holds roles k.some } in
+      let able : Able limit first = record { lawful = lawful; fits = omega (arith, count_first roles, k.fits); two = k.two } in
+      let free : unpaid first ≡ first = ap (λ rs. record { number = s.number; opened = true; cells = opening_cells; waiting = []; records = rs; table = s.table }) (first_free roles) in
+      subst (λ (x : State). Promised does limit x m roles) (sym start) (promised does limit first m roles (refl, refl, refl) free able)
