@@ -18,5 +18,8 @@ returns-clause-opens g c =
 pub returns-clause-promises : goal.returns-clause-promises
 returns-clause-promises g c =
     let m = g.M.Memory in
+    let s = c.args.self.now in
+    let roles = c.args.roles.now in
+    let before = view m g.Q.Queue s in
     let asked = c.in_ok-ask_open.ensures in
-    opened_promises m.does m.limit (m.top c.args.self.now.memory) _ _ _ c.args.roles.now asked.0 (opened_then m.does _ _ _ _ _ c.args.roles.now _ asked.0 (returns-clause-opens g c).0)
+    opened_promises m.does m.limit (m.top s.memory) before _ _ roles asked.0 (opened_then m.does (open_refused m g.Q.Queue s roles) before _ s.memory _ roles _ asked.0 (returns-clause-opens g c).0)
