@@ -4,3 +4,4 @@ pub mod Done
 pub mod Opened
 pub mod Facts
 pub mod Keeps
+pub mod Costs
