@@ -5,3 +5,4 @@ pub mod Opened
 pub mod Facts
 pub mod Keeps
 pub mod Costs
+pub mod Copies
