@@ -14,3 +14,5 @@ pub mod SoundRuns
 pub mod RowRuns
 pub mod Decided
 pub mod Promised
+pub mod Costs
+pub mod Copies

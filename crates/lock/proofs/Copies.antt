@@ -1,0 +1,170 @@
+-- Which copies a task holds, read from the masks of the cache layer, and what a deed makes of them and charges in units.
+use Rattle.std.proofs.Common.{◌≡◌, ℕ, ◌-◌, ◌*◌, ◌/◌, ◌^◌, ◌<◌, ◌≤◌, true, false, cond, eqb, ◌≢◌, List, length, get_or, set, refl, sym, ap, ◌∙◌, inl, inr, arith}
+use native.Mathlib.Nat.{zero-div}
+use Rattle.std.proofs.lemmas.Bool.{cases_eq, cases_Bool, eq-eqb, ne_eqb}
+use Rattle.std.proofs.lemmas.List.{get_or-set_same, get_or-set_other, length-set}
+use Rattle.std.specs.Prelude.{MatchBool}
+use Rattle.sets.specs.Sets.{holds, joined}
+use Rattle.sets.proofs.Put.{joins}
+use Rattle.memory.specs.declared.operation.Operation.{Operation}
+use Rattle.memory.specs.declared.operation.Operation.TheVariants.{Read, Write, Add, Swap}
+use Rattle.memory.specs.Calls.{Doing, Kept}
+use Rattle.memory.specs.Operations.{cell_of}
+use Rattle.cache.specs.Copies.{Cached, Empties}
+use Rattle.lines.specs.declared.deed.Deed.{Deed}
+use Rattle.lines.specs.declared.deed.Deed.TheVariants.{Touch, Join, First, Quit, Nothing}
+use Rattle.lines.specs.declared.place.Line.{Line}
+use Rattle.lines.specs.declared.place.Line.TheVariants.{L0p1, L0p2, L2, L10, L19, L32p1}
+use Rattle.lines.specs.declared.track.Track.{Track}
+use Rattle.lines.specs.Lines.{deed_of}
+use Rattle.calls.specs.Steps.{Shares}
+use Rattle.lock.proofs.Costs.{Units, charge, other_copies, own_copies, purse}
+
+-- 1 where task t holds a copy of cell k, else 0
+abbrev pub flag : List ℕ → ℕ → ℕ → ℕ
+flag masks t k = cond (holds (get_or masks k 0) t) 1 0
+
+-- the masks after a deed of task t
+abbrev pub masks_after : Deed → ℕ → List ℕ → List ℕ
+masks_after (Touch (Read c)) t masks = cond (holds (get_or masks c 0) t) masks (set masks c (joined (get_or masks c 0) t))
+masks_after (Touch (Write c n)) t masks = set masks c 0
+masks_after (Touch (Add c s)) t masks = set masks c 0
+masks_after (Touch (Swap c e n)) t masks = set masks c 0
+masks_after Join t masks = masks
+masks_after First t masks = masks
+masks_after Quit t masks = masks
+masks_after Nothing t masks = masks
+
+-- the units that the deed costs the task
+abbrev pub unit_share : Deed → ℕ → List ℕ → ℕ
+unit_share (Touch (Read c)) t masks = cond (holds (get_or masks c 0) t) 0 1
+unit_share (Touch (Write c n)) t masks = 1
+unit_share (Touch (Add c s)) t masks = 1
+unit_share (Touch (Swap c e n)) t masks = 1
+unit_share Join t masks = 0
+unit_share First t masks = 0
+unit_share Quit t masks = 0
+unit_share Nothing t masks = 0
+
+-- a deed that touches a cell touches one of the seven
+abbrev pub TouchesKnown : Deed → Type 0
+TouchesKnown (Touch op) = cell_of op < 7
+TouchesKnown Join = Unit {0}
+TouchesKnown First = Unit {0}
+TouchesKnown Quit = Unit {0}
+TouchesKnown Nothing = Unit {0}
+
+pub touches_known : (l : Line) (t : ℕ) (r : Track) → TouchesKnown (deed_of l t r)
+touches_known L0p1 t r = tt
+touches_known L0p2 t r = tt
+touches_known L2 t r = tt
+touches_known L10 t r = tt
+touches_known L19 t r = tt
+touches_known L32p1 t r = tt
+touches_known l t r = omega arith
+
+pub length-masks_after : (d : Deed) (t : ℕ) (masks : List ℕ) → length (masks_after d t masks) ≡ length masks
+length-masks_after (Touch (Read c)) t masks = elim (cases_Bool (holds (get_or masks c 0) t)) [ inl held ↦ rw held | inr free ↦ rw free (length-set masks c _) ]
+length-masks_after (Touch (Write c n)) t masks = length-set masks c 0
+length-masks_after (Touch (Add c s)) t masks = length-set masks c 0
+length-masks_after (Touch (Swap c e n)) t masks = length-set masks c 0
+length-masks_after Join t masks = refl
+length-masks_after First t masks = refl
+length-masks_after Quit t masks = refl
+length-masks_after Nothing t masks = refl
+
+pub unit_share-charge : (d : Deed) (t : ℕ) (masks : List ℕ) → unit_share d t masks ≡ charge d (flag masks t)
+unit_share-charge (Touch (Read c)) t masks = elim (cases_Bool (holds (get_or masks c 0) t)) [ inl held ↦ rw held | inr free ↦ rw free ]
+unit_share-charge (Touch (Write c n)) t masks = refl
+unit_share-charge (Touch (Add c s)) t masks = refl
+unit_share-charge (Touch (Swap c e n)) t masks = refl
+unit_share-charge Join t masks = refl
+unit_share-charge First t masks = refl
+unit_share-charge Quit t masks = refl
+unit_share-charge Nothing t masks = refl
+
+holds_none : (t : ℕ) → holds 0 t ≡ false
+holds_none t = let e : 0 / 2 ^ (t - 1) ≡ 0 = zero-div (2 ^ (t - 1)) in rw e
+
+module _ (masks : List ℕ) (seven : length masks ≡ 7) where
+  flag-set : (c n u k : ℕ) → c < 7 → flag (set masks c n) u k ≡ cond (eqb c k) (cond (holds n u) 1 0) (flag masks u k)
+  flag-set c n u k known = elim (cases_eq c k) [
+    | inl same ↦ rw (eq-eqb c k same, ← same, get_or-set_same masks c n 0 (omega arith))
+    | inr other ↦ rw (ne_eqb c k other, get_or-set_other masks c k n 0 (λ e. other (sym e)))
+  ]
+
+  -- nobody holds a copy of a cell that is emptied
+  flag_emptied : (c u k : ℕ) → c < 7 → flag (set masks c 0) u k ≡ cond (eqb c k) 0 (flag masks u k)
+  flag_emptied c u k known = flag-set c 0 u k known ∙ rw (holds_none u)
+
+  pub flag_own : (d : Deed) (t k : ℕ) → TouchesKnown d → 1 ≤ t → flag (masks_after d t masks) t k ≡ own_copies d (flag masks t) k
+  flag_own (Touch (Read c)) t k known h = elim (cases_Bool (holds (get_or masks c 0) t)) [
+    | inl held ↦ rw held (elim (cases_eq c k) [ inl same ↦ rw (eq-eqb c k same, ← same, held) | inr other ↦ rw (ne_eqb c k other) ])
+    | inr free ↦ rw free (flag-set c (joined (get_or masks c 0) t) t k known ∙ rw ((joins (get_or masks c 0) t h).0))
+  ]
+  flag_own (Touch (Write c n)) t k known h = flag_emptied c t k known
+  flag_own (Touch (Add c s)) t k known h = flag_emptied c t k known
+  flag_own (Touch (Swap c e n)) t k known h = flag_emptied c t k known
+  flag_own Join t k known h = refl
+  flag_own First t k known h = refl
+  flag_own Quit t k known h = refl
+  flag_own Nothing t k known h = refl
+
+  pub flag_other : (d : Deed) (t u k : ℕ) → TouchesKnown d → 1 ≤ t → 1 ≤ u → u ≢ t → flag (masks_after d t masks) u k ≡ other_copies d (flag masks u) k
+  flag_other (Touch (Read c)) t u k known h j apart = elim (cases_Bool (holds (get_or masks c 0) t)) [
+    | inl held ↦ rw held
+    | inr free ↦ rw free (flag-set c (joined (get_or masks c 0) t) u k known ∙ rw ((joins (get_or masks c 0) t h).1 u j apart) (elim (cases_eq c k) [ inl same ↦ rw (eq-eqb c k same, ← same) | inr other ↦ rw (ne_eqb c k other) ]))
+  ]
+  flag_other (Touch (Write c n)) t u k known h j apart = flag_emptied c u k known
+  flag_other (Touch (Add c s)) t u k known h j apart = flag_emptied c u k known
+  flag_other (Touch (Swap c e n)) t u k known h j apart = flag_emptied c u k known
+  flag_other Join t u k known h j apart = refl
+  flag_other First t u k known h j apart = refl
+  flag_other Quit t u k known h j apart = refl
+  flag_other Nothing t u k known h j apart = refl
+
+-- the same of a purse, which looks at three cells
+
+pub purse_own : (d : Deed) (t : ℕ) (masks : List ℕ) (a : Units) → length masks ≡ 7 → TouchesKnown d → 1 ≤ t → purse a (flag (masks_after d t masks) t) ≡ purse a (own_copies d (flag masks t))
+purse_own d t masks a seven known h = rw (flag_own masks seven d t 2 known h, flag_own masks seven d t 4 known h, flag_own masks seven d t 6 known h)
+
+pub purse_other : (d : Deed) (t u : ℕ) (masks : List ℕ) (a : Units) → length masks ≡ 7 → TouchesKnown d → 1 ≤ t → 1 ≤ u → u ≢ t → purse a (flag (masks_after d t masks) u) ≡ purse a (other_copies d (flag masks u))
+purse_other d t u masks a seven known h j apart = rw (flag_other masks seven d t u 2 known h j apart, flag_other masks seven d t u 4 known h j apart, flag_other masks seven d t u 6 known h j apart)
+
+-- a share of at most so many units, each within the ceiling, with these masks left and the ceiling as it was
+pub record Charged (ceiling units : ℕ) (masks : List ℕ) (share ceiling' : ℕ) (masks' : List ℕ) : Type 0 where
+  pub within : share ≤ ceiling * units
+  pub left : masks' ≡ masks
+  pub same_ceiling : ceiling' ≡ ceiling
+
+-- a deed of task t is charged by its units
+abbrev pub ChargedByUnits : Deed → ℕ → ℕ → List ℕ → ℕ → ℕ → List ℕ → Type 0
+ChargedByUnits d t ceiling masks share ceiling' masks' = Charged ceiling (unit_share d t masks) (masks_after d t masks) share ceiling' masks'
+
+-- the cache layer charges each operation so, over any memory
+module _ {S : Type 0} (cells : S → List ℕ) (top : S → ℕ) (does : Doing S) (law : (s t : S) (task : ℕ) (op : Operation) (share : ℕ) → does s task op share t → Kept cells top s op share t) where
+  emptied : (s t : S) (masks masks' : List ℕ) (task c : ℕ) (op : Operation) (share : ℕ) → Empties does s masks task op c share t masks' → Charged (top s) 1 (set masks c 0) share (top t) masks'
+  emptied s t masks masks' task c op share d = let kept = law s t task op share d.0 in record { within = omega arith; left = d.1; same_ceiling = kept.2 }
+
+  pub cached_charged : (s t : S) (masks masks' : List ℕ) (task : ℕ) (op : Operation) (share : ℕ) → Cached does s masks task op share t masks' → ChargedByUnits (Touch op) task (top s) masks share (top t) masks'
+  cached_charged s t masks masks' task (Read c) share d =
+      let more = set masks c (joined (get_or masks c 0) task) in
+      (elim (holds (get_or masks c 0) task) as (λ v. MatchBool v ((share ≡ 0) × (t ≡ s) × (masks' ≡ masks)) (does s task (Read c) share t × (masks' ≡ more)) → Charged (top s) (cond v 0 1) (cond v masks more) share (top t) masks') [
+        | true ↦ λ e. record { within = omega arith; left = e.2; same_ceiling = ap top e.1 }
+        | false ↦ λ e. let kept = law s t task (Read c) share e.0 in record { within = omega arith; left = e.1; same_ceiling = kept.2 }
+      ]) d
+  cached_charged s t masks masks' task (Write c n) share d = emptied s t masks masks' task c (Write c n) share d
+  cached_charged s t masks masks' task (Add c p) share d = emptied s t masks masks' task c (Add c p) share d
+  cached_charged s t masks masks' task (Swap c e n) share d = emptied s t masks masks' task c (Swap c e n) share d
+
+-- a memory that charges each operation so charges each deed of a line so
+module _ {M : Type 0} (does : Doing M) (masks : M → List ℕ) (top : M → ℕ) (law : (m n : M) (t : ℕ) (op : Operation) (share : ℕ) → does m t op share n → ChargedByUnits (Touch op) t (top m) (masks m) share (top n) (masks n)) where
+  untouched : (m n : M) (share : ℕ) → (share ≡ 0) × (n ≡ m) → Charged (top m) 0 (masks m) share (top n) (masks n)
+  untouched m n share e = record { within = omega arith; left = ap masks e.1; same_ceiling = ap top e.1 }
+
+  pub deed_charged : (d : Deed) (m n : M) (t share : ℕ) → Shares does m t d share n → ChargedByUnits d t (top m) (masks m) share (top n) (masks n)
+  deed_charged (Touch op) m n t share e = law m n t op share e
+  deed_charged Join m n t share e = untouched m n share e
+  deed_charged First m n t share e = untouched m n share e
+  deed_charged Quit m n t share e = untouched m n share e
+  deed_charged Nothing m n t share e = untouched m n share e
