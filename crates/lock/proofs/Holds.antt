@@ -188,7 +188,7 @@ module _ (l : Line) (C D G X P U V : ℕ) (ws : List ℕ) (rs : List Record) (i 
   abbrev pub ws' : List ℕ
   ws' = waiting_after deed (suc i) ws
 
-  abbrev Moved : Type 0
+  abbrev pub Moved : Type 0
   Moved = Keeps deed (seen_cells cs ws) (seen i r) (seen_cells cs' ws') (seen i (settle l r (finds deed (suc i) cs ws)))
 
   module _ (g : Holds cs ws rs) (k : Moved) (r' : Record) (is : r'.track ≡ settle l r (finds deed (suc i) cs ws)) where
@@ -198,7 +198,7 @@ module _ (l : Line) (C D G X P U V : ℕ) (ws : List ℕ) (rs : List Record) (i 
     new_is : seen i r'.track ≡ seen i (settle l r (finds deed (suc i) cs ws))
     new_is = ap (seen i) is
 
-    met : (j : ℕ) → j ≢ i → Met (seen_cells cs ws) (seen_cells cs' ws') (seen i r) (seen_at rs j)
+    pub met : (j : ℕ) → j ≢ i → Met (seen_cells cs ws) (seen_cells cs' ws') (seen i r) (seen_at rs j)
     met j n = record { apart = omega arith; sum = omega (arith, g.count, ticks_counted rs i j h n); next = next_waits deed rs i ws g.waits j n; one = g.one j; pair = g.pair i j (λ e. n (sym e)); pair_back = g.pair j i n }
 
     one_kept : (j : ℕ) → OneTask (seen_cells cs' ws') (seen_at rs' j)

@@ -16,15 +16,17 @@ use Rattle.lines.specs.declared.track.Track.{Track}
 use Rattle.lines.specs.Lines.{deed_of, goes, next_deed, settle, stepped}
 use Rattle.lines.specs.Rights.{right_at, right_of}
 use Rattle.lines.specs.Starts.{begin_line, downgrade_line, leave_line, upgrade_line}
+use Rattle.calls.specs.declared.account.Account.{Account}
 use Rattle.calls.specs.declared.refusal.Refusal.{Refusal}
 use Rattle.calls.specs.declared.refusal.Refusal.TheVariants.{NoPass, OtherLock, Shut}
 use Rattle.calls.specs.declared.record.Record.{Record}
+use Rattle.calls.specs.Accounts.{one_more_downgrade, one_more_upgrade, restarted}
 use Rattle.calls.specs.Records.{begun, downgrading, in_order, leaving, upgrading}
 use Rattle.calls.specs.Questions.{advance_refusal, advance_refusal_at, ask, begin_refusal, begin_refusal_at, is_out, out_for, pass_refusal, task_refusal, upgrade_refusal}
 use Rattle.calls.specs.States.{State, record_of}
 use Rattle.calls.proofs.Obeyed.{is_task, yes}
 use Rattle.calls.proofs.Sound.{begun_in_order, downgrading_in_order, has_out, leaving_in_order, parts, upgrading_in_order}
-use Rattle.lock.proofs.Facts.{Before, Cells, OneTask, seen}
+use Rattle.lock.proofs.Facts.{Before, Cells, OneTask, rank_of_line, seen}
 use Rattle.lock.proofs.Holds.{Holds, at}
 
 -- The track q stands before the line l, to which the call of the line brings the task on the track r at place i.
@@ -52,10 +54,10 @@ module _ (i prev curr d x : ℕ) where
   on_line : (c : Cells) (l : Line) (o : Role) (s : Standing) → OneTask c (seen i (track (Next l) o s)) → Before l (seen i (track (Next l) o s))
   on_line c l o s m = grind arith
 
-  advance_leads : (c : Cells) (p : Place) (o : Role) (s : Standing) → OneTask c (seen i (track p o s)) → advance_refusal_at p ≡ None → (l : Line) × Leads i (track p o s) (track p o s) l
+  advance_leads : (c : Cells) (p : Place) (o : Role) (s : Standing) → OneTask c (seen i (track p o s)) → advance_refusal_at p ≡ None → (l : Line) × Leads i (track p o s) (track p o s) l × (rank_of_line l ≤ 39)
   advance_leads c Rest o s m h = absurd (none_is_some _ h)
   advance_leads c Inside o s m h = absurd (none_is_some _ h)
-  advance_leads c (Next l) o s m h = (l, record { before = on_line c l o s m; deed = λ t. refl; steps = λ f. refl })
+  advance_leads c (Next l) o s m h = (l, record { before = on_line c l o s m; deed = λ t. refl; steps = λ f. refl }, m.known_rank)
 
   upgrade_leads : (p : Place) (o : Role) (s : Standing) → right_at p o s ≡ Some Reading → Leads i (track p o s) (goes (track p o s) upgrade_line) L27p1
   upgrade_leads Rest o s h = absurd (some_is_none _ h)
@@ -86,6 +88,41 @@ module _ (i prev curr d x : ℕ) where
   leave_leads Inside Writer Downgraded w h = record { before = (refl, refl); deed = λ t. refl; steps = λ f. refl }
   leave_leads (Next l) o s w h = absurd (some_is_none _ h)
 
+-- what the call of a line makes of the account before it: begin starts it anew, upgrade and downgrade count
+abbrev pub account_of_call : Line → Account → Account
+account_of_call L0p1 a = restarted a
+account_of_call L16 a = restarted a
+account_of_call L27p1 a = one_more_upgrade a
+account_of_call L25p1 a = one_more_downgrade a
+account_of_call Down28p1 a = one_more_downgrade a
+account_of_call l a = a
+
+begin_account : (o : Role) (a : Account) → restarted a ≡ account_of_call (begin_line o) a
+begin_account Reader a = refl
+begin_account Writer a = refl
+
+downgrade_account : (s : Standing) (a : Account) → one_more_downgrade a ≡ account_of_call (downgrade_line s) a
+downgrade_account Normal a = refl
+downgrade_account Upgraded a = refl
+downgrade_account Downgraded a = refl
+
+leave_account : (o : Role) (s : Standing) (a : Account) → a ≡ account_of_call (leave_line o s) a
+leave_account Reader Normal a = refl
+leave_account Writer Normal a = refl
+leave_account Reader Upgraded a = refl
+leave_account Writer Upgraded a = refl
+leave_account Reader Downgraded a = refl
+leave_account Writer Downgraded a = refl
+
+-- a line that is some task's next one is no first line of a call
+later_account : (l : Line) (a : Account) → rank_of_line l ≤ 39 → a ≡ account_of_call l a
+later_account L0p1 a h = absurd (omega (arith, h))
+later_account L16 a h = absurd (omega (arith, h))
+later_account L27p1 a h = absurd (omega (arith, h))
+later_account L25p1 a h = absurd (omega (arith, h))
+later_account Down28p1 a h = absurd (omega (arith, h))
+later_account l a h = refl
+
 -- what holds of an opened lock at any time
 pub record Lawful (s : State) : Type 0 where
   pub opened : s.opened ≡ true
@@ -100,6 +137,7 @@ pub record Due (s : State) (t : ℕ) (r : Record) : Type 0 where
   pub high : t ≤ length s.records
   pub next : Line
   pub leads : Leads (t - 1) (record_of s t).track r.track next
+  pub account : r.account ≡ account_of_call next (record_of s t).account
   pub ordered : in_order r ≡ true
   pub on_line : advance_refusal r ≡ None
 
@@ -132,20 +170,20 @@ module _ (s : State) (t : ℕ) (g : Lawful s) where
   due_begin there free =
       let (low, high) = task_there s t there in
       let k = r.track in
-      record { low = low; high = high; next = begin_line k.role; leads = begin_leads (t - 1) k.prev k.curr k.d k.x k.place k.role k.standing r.account.finished free; ordered = begun_in_order r (g.ordered (t - 1)) free; on_line = refl }
+      record { low = low; high = high; next = begin_line k.role; leads = begin_leads (t - 1) k.prev k.curr k.d k.x k.place k.role k.standing r.account.finished free; account = begin_account k.role r.account; ordered = begun_in_order r (g.ordered (t - 1)) free; on_line = refl }
 
   pub due_advance : task_refusal s t ≡ None → advance_refusal r ≡ None → Due s t r
   due_advance there on =
       let (low, high) = task_there s t there in
       let k = r.track in
-      let (l, leads) = advance_leads (t - 1) k.prev k.curr k.d k.x _ k.place k.role k.standing (g.holds.one (t - 1)) on in
-      record { low = low; high = high; next = l; leads = leads; ordered = g.ordered (t - 1); on_line = on }
+      let (l, leads, later) = advance_leads (t - 1) k.prev k.curr k.d k.x _ k.place k.role k.standing (g.holds.one (t - 1)) on in
+      record { low = low; high = high; next = l; leads = leads; account = later_account l r.account later; ordered = g.ordered (t - 1); on_line = on }
 
   pub due_upgrade : Holding s Reading t → upgrade_refusal r ≡ None → Due s t (upgrading r)
-  due_upgrade p few = let k = r.track in record { low = p.low; high = p.high; next = L27p1; leads = upgrade_leads (t - 1) k.prev k.curr k.d k.x k.place k.role k.standing p.right; ordered = upgrading_in_order r (g.ordered (t - 1)) p.out few; on_line = refl }
+  due_upgrade p few = let k = r.track in record { low = p.low; high = p.high; next = L27p1; leads = upgrade_leads (t - 1) k.prev k.curr k.d k.x k.place k.role k.standing p.right; account = refl; ordered = upgrading_in_order r (g.ordered (t - 1)) p.out few; on_line = refl }
 
   pub due_downgrade : Holding s Writing t → Due s t (downgrading r)
-  due_downgrade p = let k = r.track in record { low = p.low; high = p.high; next = downgrade_line k.standing; leads = downgrade_leads (t - 1) k.prev k.curr k.d k.x k.place k.role k.standing p.right; ordered = downgrading_in_order r (g.ordered (t - 1)) p.out; on_line = refl }
+  due_downgrade p = let k = r.track in record { low = p.low; high = p.high; next = downgrade_line k.standing; leads = downgrade_leads (t - 1) k.prev k.curr k.d k.x k.place k.role k.standing p.right; account = downgrade_account k.standing r.account; ordered = downgrading_in_order r (g.ordered (t - 1)) p.out; on_line = refl }
 
   pub due_leave : (w : Right) → Holding s w t → Due s t (leaving r)
-  due_leave w p = let k = r.track in record { low = p.low; high = p.high; next = leave_line k.role k.standing; leads = leave_leads (t - 1) k.prev k.curr k.d k.x k.place k.role k.standing w p.right; ordered = leaving_in_order r w (g.ordered (t - 1)) p.out; on_line = refl }
+  due_leave w p = let k = r.track in record { low = p.low; high = p.high; next = leave_line k.role k.standing; leads = leave_leads (t - 1) k.prev k.curr k.d k.x k.place k.role k.standing w p.right; account = leave_account k.role k.standing r.account; ordered = leaving_in_order r w (g.ordered (t - 1)) p.out; on_line = refl }

@@ -16,3 +16,4 @@ pub mod Decided
 pub mod Promised
 pub mod Costs
 pub mod Copies
+pub mod CostRuns

@@ -1,0 +1,216 @@
+-- The cost bound: each task's account is backed by units, of which a place allows no more than Costs says.
+use Rattle.std.proofs.Common.{◌≡◌, ℕ, zero, suc, ◌+◌, ◌-◌, ◌*◌, ◌<◌, ◌≤◌, Bool, true, false, cond, eqb, ◌≢◌, List, [], ◌∷◌, length, get_or, set, min, None, Option, sym, refl, ap, ◌∙◌, subst, inl, inr, arith}
+use Rattle.std.proofs.lemmas.Bool.{cases_eq, eq-eqb, ne_eqb}
+use Rattle.std.proofs.lemmas.List.{get_or-set_same, get_or-set_other}
+use Rattle.memory.specs.declared.operation.Operation.{Operation}
+use Rattle.memory.specs.Calls.{Doing}
+use Rattle.lines.specs.declared.deed.Deed.{Deed}
+use Rattle.lines.specs.declared.deed.Deed.TheVariants.{Touch}
+use Rattle.lines.specs.declared.place.Line.{Line}
+use Rattle.lines.specs.declared.place.Line.TheVariants.{L0p1, L16, L25p1, L27p1, Down28p1}
+use Rattle.lines.specs.declared.place.Place.{Place}
+use Rattle.lines.specs.declared.place.Place.TheVariants.{Rest, Inside, Next}
+use Rattle.lines.specs.declared.place.Role.{Role}
+use Rattle.lines.specs.declared.place.Role.TheVariants.{Reader, Writer}
+use Rattle.lines.specs.declared.track.Track.{Track}
+use Rattle.lines.specs.Deeds.{cells_after, finds, waiting_after}
+use Rattle.lines.specs.Lines.{at_rest, deed_of, next_deed, settle}
+use Rattle.calls.specs.declared.account.Account.{Account}
+use Rattle.calls.specs.declared.record.Record.{Record}
+use Rattle.calls.specs.declared.refusal.Refusal.{Refusal}
+use Rattle.calls.specs.Accounts.{charged, unpaid}
+use Rattle.calls.specs.Opening.{enlisted, opening_cells}
+use Rattle.calls.specs.Records.{arrived, fresh, settled}
+use Rattle.calls.specs.States.{State, record_of}
+use Rattle.calls.specs.Steps.{Answer, Call, Calls, Carried, LineShares, Verdict, VerdictShares, after_deed, at_once, deed_refusal, judge, line, lined, refuse}
+use Rattle.lock.specs.Runs.{Made, Run, RunWhile}
+use Rattle.lock.proofs.Allowed.{allowed}
+use Rattle.lock.proofs.Copies.{ChargedByUnits, deed_charged, flag, length-masks_after, masks_after, purse_other, purse_own, touches_known, unit_share, unit_share-charge}
+use Rattle.lock.proofs.Costs.{Paid, Units, account_before, at_most_20, charge, other_copies, others_kept, own_copies, payer_kept, purse}
+use Rattle.lock.proofs.Costs.{charged as charged_units}
+use Rattle.lock.proofs.Facts.{Before, OneTask, Task, seen, seen_cells, writer}
+use Rattle.lock.proofs.Holds.{Holds, at, line_moves, met, seen_at}
+use Rattle.lock.proofs.Judged.{Due, Lawful, account_of_call}
+use Rattle.lock.proofs.Meant.{Meant, Quiet, meant}
+use Rattle.lock.proofs.Opened.{seven_of}
+use Rattle.lock.proofs.Runs.{Able, call_able}
+
+-- An account is backed by units, at the ceiling each.
+
+pub record Backed (top : ℕ) (a : Account) (b : Units) : Type 0 where
+  pub cost : a.cost ≤ top * b.cost
+  pub u : a.u ≡ b.u
+  pub g : a.g ≡ b.g
+
+backed_call : (top : ℕ) (l : Line) (a : Account) (b : Units) → Backed top a b → Backed top (account_of_call l a) (account_before l b)
+backed_call top L0p1 a b h = record { cost = omega arith; u = refl; g = refl }
+backed_call top L16 a b h = record { cost = omega arith; u = refl; g = refl }
+backed_call top L27p1 a b h = record { cost = h.cost; u = ap (λ n. n + 1) h.u; g = h.g }
+backed_call top L25p1 a b h = record { cost = h.cost; u = h.u; g = ap (λ n. n + 1) h.g }
+backed_call top Down28p1 a b h = record { cost = h.cost; u = h.u; g = ap (λ n. n + 1) h.g }
+backed_call top l a b h = h
+
+times_sum : (k a b : ℕ) → k * (a + b) ≡ k * a + k * b
+times_sum zero a b = omega arith
+times_sum (suc k) a b = omega (arith, times_sum k a b)
+
+backed_charge : (top share n : ℕ) (a : Account) (b : Units) → share ≤ top * n → Backed top a b → Backed top (charged a share) (charged_units b n)
+backed_charge top share n a b less h = record { cost = omega (arith, times_sum top b.cost n, h.cost); u = h.u; g = h.g }
+
+backed_arrived : (p : Place) (top : ℕ) (a : Account) (b : Units) → Backed top a b → Backed top (arrived p a) b
+backed_arrived Rest top a b h = record { cost = h.cost; u = h.u; g = h.g }
+backed_arrived Inside top a b h = h
+backed_arrived (Next l) top a b h = h
+
+times_less : (k a b : ℕ) → a ≤ b → k * a ≤ k * b
+times_less zero a b h = omega arith
+times_less (suc k) a b h = omega (arith, times_less k a b h)
+
+-- what backs each task, where the cells, the queue, the records and the copies are so
+abbrev pub Paying : List ℕ → List ℕ → List Record → List ℕ → (ℕ → Units) → Type 0
+Paying cs ws rs masks units = (j : ℕ) → Paid (seen_cells cs ws) (seen_at rs j) (purse (units j) (flag masks (suc j)))
+
+-- the units of the task at place i are these from now on
+abbrev with_units : (ℕ → Units) → ℕ → Units → ℕ → Units
+with_units units i b j = cond (eqb j i) b (units j)
+
+module _ (l : Line) (C D G X P U V : ℕ) (ws : List ℕ) (rs : List Record) (i : ℕ) (h : i < length rs) (masks : List ℕ) (seven : length masks ≡ 7) (units : ℕ → Units) where
+  abbrev cs : List ℕ
+  cs = C ∷ D ∷ G ∷ X ∷ P ∷ U ∷ V ∷ []
+
+  abbrev k : Track
+  k = (at rs i).track
+
+  abbrev deed : Deed
+  deed = deed_of l (suc i) k
+
+  abbrev found : Track
+  found = settle l k (finds deed (suc i) cs ws)
+
+  abbrev after : ℕ → Units
+  after = with_units units i (charged_units (account_before l (units i)) (unit_share deed (suc i) masks))
+
+  abbrev PaidBy : Task → Units → ℕ → Type 0
+  PaidBy a b j = Paid (seen_cells (cells_after deed cs) (waiting_after deed (suc i) ws)) a (purse b (flag (masks_after deed (suc i) masks) (suc j)))
+
+  line_paid : Before l (seen i k) → Holds cs ws rs → Paying cs ws rs masks units → (r : Record) → r.track ≡ found → Paying (cells_after deed cs) (waiting_after deed (suc i) ws) (set rs i r) (masks_after deed (suc i) masks) after
+  line_paid b g p r is j =
+      let known = touches_known l (suc i) k in
+      let low : 1 ≤ suc i = omega arith in
+      let own = charged_units (account_before l (units i)) (charge deed (flag masks (suc i))) in
+      elim (cases_eq j i) [
+        | inl e ↦
+            let paid : Paid (seen_cells (cells_after deed cs) (waiting_after deed (suc i) ws)) (seen i found) (purse own (own_copies deed (flag masks (suc i)))) =
+            payer_kept C D G X P U V i k.prev k.curr k.d k.x k.place k.standing (units i) (flag masks (suc i)) l k.role ws b (g.one i) (p i) in
+            let with_copies : PaidBy (seen i found) own i = subst (λ m. Paid (seen_cells (cells_after deed cs) (waiting_after deed (suc i) ws)) (seen i found) m) (sym (purse_own deed (suc i) masks own seven known low)) paid in
+            let with_share : PaidBy (seen i found) (charged_units (account_before l (units i)) (unit_share deed (suc i) masks)) i = subst (λ n. PaidBy (seen i found) (charged_units (account_before l (units i)) n) i) (sym (unit_share-charge deed (suc i) masks)) with_copies in
+            let with_units : PaidBy (seen i found) (after i) i = subst (λ c. PaidBy (seen i found) (cond c (charged_units (account_before l (units i)) (unit_share deed (suc i) masks)) (units i)) i) (sym (eq-eqb i i refl)) with_share in
+            let with_record : PaidBy (seen_at (set rs i r) i) (after i) i = subst (λ x. PaidBy (seen i x) (after i) i) (sym (ap (λ (x : Record). x.track) (get_or-set_same rs i r (fresh Reader) h) ∙ is)) with_units in
+            subst (λ n. PaidBy (seen_at (set rs i r) n) (after n) n) (sym e) with_record
+        | inr n ↦
+            let apart : suc j ≢ suc i = omega arith in
+            let m = met l C D G X P U V ws rs i h g (line_moves l C D G X P U V ws rs i h b g) r is j n in
+            let paid : Paid (seen_cells (cells_after deed cs) (waiting_after deed (suc i) ws)) (seen_at rs j) (purse (units j) (other_copies deed (flag masks (suc j)))) =
+            others_kept C D G X P U V i k.prev k.curr k.d k.x k.place k.standing (units i) (flag masks (suc i)) l k.role ws b (g.one i) (seen_at rs j) (units j) (flag masks (suc j)) m (p j) in
+            let with_copies : PaidBy (seen_at rs j) (units j) j = subst (λ m. Paid (seen_cells (cells_after deed cs) (waiting_after deed (suc i) ws)) (seen_at rs j) m) (sym (purse_other deed (suc i) (suc j) masks (units j) seven known low (omega arith) apart)) paid in
+            let with_units : PaidBy (seen_at rs j) (after j) j = subst (λ c. PaidBy (seen_at rs j) (cond c (charged_units (account_before l (units i)) (unit_share deed (suc i) masks)) (units j)) j) (sym (ne_eqb j i n)) with_copies in
+            subst (λ x. PaidBy (seen j x) (after j) j) (sym (ap (λ (x : Record). x.track) (get_or-set_other rs i j r (fresh Reader) n))) with_units
+      ]
+
+pub record Costed (top : ℕ) (s : State) (masks : List ℕ) : Type 0 where
+  pub seven : length masks ≡ 7
+  pub units : ℕ → Units
+  pub paying : Paying s.cells s.waiting s.records masks units
+  pub backed : (j : ℕ) → Backed top (at s.records j).account (units j)
+
+line_costed : (top : ℕ) (s : State) (t : ℕ) (r : Record) (share : ℕ) (masks masks' : List ℕ) → Lawful s → Due s t r → share ≤ top * unit_share (next_deed t r.track) t masks → masks' ≡ masks_after (next_deed t r.track) t masks → Costed top s masks →
+    Costed top (after_deed t r (next_deed t r.track) share s) masks'
+line_costed top s t r share masks masks' g d less left c =
+    let i = t - 1 in
+    let k = (record_of s t).track in
+    let rs = s.records in
+    let l = d.next in
+    let due = next_deed t r.track in
+    let y = settled r (finds due t s.cells s.waiting) share in
+    let h : i < length rs = omega (arith, d.low, d.high) in
+    let is : suc i ≡ t = omega (arith, d.low) in
+    let same : due ≡ deed_of l t k = d.leads.deed t in
+    let own : due ≡ deed_of l (suc i) k = same ∙ ap (λ n. deed_of l n k) (sym is) in
+    let steps : y.track ≡ settle l k (finds (deed_of l (suc i) k) (suc i) s.cells s.waiting) =
+    d.leads.steps (finds due t s.cells s.waiting) ∙ ap (λ p. settle l k (finds p t s.cells s.waiting)) own ∙ ap (λ n. settle l k (finds (deed_of l (suc i) k) n s.cells s.waiting)) (sym is) in
+    let P : List ℕ → Type 0 = λ xs. y.track ≡ settle l k (finds (deed_of l (suc i) k) (suc i) xs s.waiting) → Holds xs s.waiting rs → Paying xs s.waiting rs masks c.units →
+        Paying (cells_after (deed_of l (suc i) k) xs) (waiting_after (deed_of l (suc i) k) (suc i) s.waiting) (set rs i y) (masks_after (deed_of l (suc i) k) (suc i) masks) (with_units c.units i (charged_units (account_before l (c.units i)) (unit_share (deed_of l (suc i) k) (suc i) masks))) in
+    let paid = subst P (sym (seven_of s.cells g.holds.seven)) (λ e h' p. line_paid l (get_or s.cells 0 0) (get_or s.cells 1 0) (get_or s.cells 2 0) (get_or s.cells 3 0) (get_or s.cells 4 0) (get_or s.cells 5 0) (get_or s.cells 6 0) s.waiting rs i h masks c.seven c.units d.leads.before h' p y e) steps g.holds c.paying in
+    let Q : Deed → ℕ → Type 0 = λ p n. Paying (cells_after p s.cells) (waiting_after p n s.waiting) (set rs i y) (masks_after p n masks) (with_units c.units i (charged_units (account_before l (c.units i)) (unit_share p n masks))) in
+    let paying : Q due t = subst (λ p. Q p t) (sym own) (subst (Q (deed_of l (suc i) k)) is paid) in
+    record {
+      seven = ap length left ∙ length-masks_after due t masks ∙ c.seven;
+      units = with_units c.units i (charged_units (account_before l (c.units i)) (unit_share due t masks));
+      paying = subst (λ ms. Paying (cells_after due s.cells) (waiting_after due t s.waiting) (set rs i y) ms (with_units c.units i (charged_units (account_before l (c.units i)) (unit_share due t masks)))) (sym left) paying;
+      backed = line_backed top rs i r share (unit_share due t masks) y l c.units h d.account less refl c.backed;
+    }
+  where
+    line_backed : (top : ℕ) (rs : List Record) (i : ℕ) (r : Record) (share n : ℕ) (y : Record) (l : Line) (units : ℕ → Units) → i < length rs → r.account ≡ account_of_call l (at rs i).account → share ≤ top * n → y.account ≡ arrived y.track.place (charged r.account share) →
+        ((j : ℕ) → Backed top (at rs j).account (units j)) → (j : ℕ) → Backed top (at (set rs i y) j).account (with_units units i (charged_units (account_before l (units i)) n) j)
+    line_backed top rs i r share n y l units h account less is backed j =
+        let new = charged_units (account_before l (units i)) n in
+        elim (cases_eq j i) [
+          | inl e ↦
+              let before : Backed top r.account (account_before l (units i)) = subst (λ a. Backed top a (account_before l (units i))) (sym account) (backed_call top l (at rs i).account (units i) (backed i)) in
+              let after : Backed top y.account new = subst (λ a. Backed top a new) (sym is) (backed_arrived y.track.place top (charged r.account share) new (backed_charge top share n r.account (account_before l (units i)) less before)) in
+              rw (e, get_or-set_same rs i y (fresh Reader) h, eq-eqb i i refl) after
+          | inr other ↦ rw (get_or-set_other rs i j y (fresh Reader) other, ne_eqb j i other) (backed j)
+        ]
+
+-- Any memory that charges by units, at its ceiling each.
+module _ {M : Type 0} (does : Doing M) (masks : M → List ℕ) (top : M → ℕ)
+  (law : (m n : M) (t : ℕ) (op : Operation) (share : ℕ) → does m t op share n → ChargedByUnits (Touch op) t (top m) (masks m) share (top n) (masks n)) (limit ceiling : ℕ) where
+
+  pub record Bounded (s : State) (m : M) : Type 0 where
+    pub able : Able limit s
+    pub costed : Costed ceiling s (masks m)
+    pub same : top m ≡ ceiling
+
+  same_costed : (s z : State) (ms : List ℕ) (a : Answer) → Quiet s a z → Costed ceiling s ms → Costed ceiling z ms
+  same_costed s z ms a q c =
+      record {
+        seven = c.seven;
+        units = c.units;
+        paying = λ j. rw (q.cells, q.waiting, q.tracks.each j) (c.paying j);
+        backed = λ j. subst (λ x. Backed ceiling x (c.units j)) (sym (q.accounts j)) (c.backed j);
+      }
+
+  same_memory : (s : State) (m n : M) → n ≡ m → Costed ceiling s (masks m) × (top m ≡ ceiling) → Costed ceiling s (masks n) × (top n ≡ ceiling)
+  same_memory s m n e c = subst (λ x. Costed ceiling s (masks x) × (top x ≡ ceiling)) (sym e) c
+
+  carried_costed : (v : Verdict) (s z : State) (m n : M) (a : Answer) → Meant s v → Bounded s m → Carried does limit v s m a z n → Costed ceiling z (masks n) × (top n ≡ ceiling)
+  carried_costed (refuse e) s z m n a h b (share, told, x, y) = subst (λ w. Costed ceiling w (masks n) × (top n ≡ ceiling)) (sym y) (same_memory s m n told.1 (b.costed, b.same))
+  carried_costed (line t r) s z m n a h b (share, told, x, y) =
+      let d = next_deed t r.track in
+      let g = b.able in
+      let none = allowed limit s t r g.lawful g.fits g.two h in
+      let left : z ≡ after_deed t r d share s = subst (λ o. z ≡ (lined o t r d share s).1) none y in
+      let charges = deed_charged does masks top law d m n t share (subst (λ o. LineShares does o m t d share n) none told) in
+      let less : share ≤ ceiling * unit_share d t (masks m) = subst (λ k. share ≤ k * unit_share d t (masks m)) b.same charges.within in
+      subst (λ w. Costed ceiling w (masks n) × (top n ≡ ceiling)) (sym left) (line_costed ceiling s t r share (masks m) (masks n) g.lawful h less charges.left b.costed, charges.same_ceiling ∙ b.same)
+  carried_costed (at_once w q) s z m n a h b (share, told, x, y) =
+      subst (λ w. Costed ceiling w (masks n) × (top n ≡ ceiling)) (sym y) (same_memory q m n told.1 (same_costed s q (masks m) w h b.costed, b.same))
+
+  pub call_bounded : (c : Call) (s z : State) (m n : M) (a : Answer) → Bounded s m → Calls does limit c s m a z n → Bounded z n
+  call_bounded c s z m n a b h =
+      let k = carried_costed (judge c s) s z m n a (meant c s b.able.lawful) b h in
+      record { able = call_able does limit c s z m n a b.able h; costed = k.0; same = k.1 }
+
+  pub run_bounded : (P : State → Type 0) (es : List Made) (s z : State) (m n : M) → Bounded s m → RunWhile does limit P es s m z n → Bounded z n
+  run_bounded P [] s z m n b (p, same, k) = rw (same, k) b
+  run_bounded P (e ∷ es) s z m n b (p, (y, k, call, run)) = run_bounded P es y z k n (call_bounded e.call s y m k e.answer b call) run
+
+  pub bound : (z : State) (n : M) → Bounded z n → (t : ℕ) → (record_of z t).account.cost ≤ ceiling * (20 + 5 * (record_of z t).account.u + 2 * (record_of z t).account.g)
+  bound z n b t =
+      let i = t - 1 in
+      let r = record_of z t in
+      let back = b.costed.backed i in
+      let paid = b.costed.paying i in
+      let small = at_most_20 r.track.role (seen_at z.records i).rank in
+      let few : (b.costed.units i).cost ≤ 20 + 5 * r.account.u + 2 * r.account.g = omega (arith, paid.bound, small, back.u, back.g) in
+      omega (arith, back.cost, times_less ceiling _ _ few)
