@@ -1,9 +1,10 @@
 -- The cost bound: each task's account is backed by units, of which a place allows no more than Costs says.
-use Rattle.std.proofs.Common.{◌≡◌, ℕ, zero, suc, ◌+◌, ◌-◌, ◌*◌, ◌<◌, ◌≤◌, Bool, true, false, cond, eqb, ◌≢◌, List, [], ◌∷◌, length, get_or, set, min, None, Option, sym, refl, ap, ◌∙◌, subst, inl, inr, arith}
+use Rattle.std.proofs.Common.{◌≡◌, ℕ, zero, suc, ◌+◌, ◌-◌, ◌*◌, ◌<◌, ◌≤◌, Bool, true, false, cond, eqb, ◌≢◌, List, [], ◌∷◌, length, get_or, set, min, IfOk, Some, None, Ok, Err, Option, Result, sym, refl, ap, ◌∙◌, subst, inl, inr, arith}
 use Rattle.std.proofs.lemmas.Bool.{cases_eq, eq-eqb, ne_eqb}
 use Rattle.std.proofs.lemmas.List.{get_or-set_same, get_or-set_other}
 use Rattle.memory.specs.declared.operation.Operation.{Operation}
 use Rattle.memory.specs.Calls.{Doing}
+use Rattle.memory.specs.Cells.{zeros}
 use Rattle.lines.specs.declared.deed.Deed.{Deed}
 use Rattle.lines.specs.declared.deed.Deed.TheVariants.{Touch}
 use Rattle.lines.specs.declared.place.Line.{Line}
@@ -19,20 +20,22 @@ use Rattle.calls.specs.declared.account.Account.{Account}
 use Rattle.calls.specs.declared.record.Record.{Record}
 use Rattle.calls.specs.declared.refusal.Refusal.{Refusal}
 use Rattle.calls.specs.Accounts.{charged, unpaid}
-use Rattle.calls.specs.Opening.{enlisted, opening_cells}
+use Rattle.calls.specs.Opening.{Opens, Wrote, open_refusal, opening_writes}
 use Rattle.calls.specs.Records.{arrived, fresh, settled}
 use Rattle.calls.specs.States.{State, record_of}
 use Rattle.calls.specs.Steps.{Answer, Call, Calls, Carried, LineShares, Verdict, VerdictShares, after_deed, at_once, deed_refusal, judge, line, lined, refuse}
+use Rattle.lock.specs.Promises.{CostBound, Starts}
 use Rattle.lock.specs.Runs.{Made, Run, RunWhile}
 use Rattle.lock.proofs.Allowed.{allowed}
 use Rattle.lock.proofs.Copies.{ChargedByUnits, deed_charged, flag, length-masks_after, masks_after, purse_other, purse_own, touches_known, unit_share, unit_share-charge}
 use Rattle.lock.proofs.Costs.{Paid, Units, account_before, at_most_20, charge, other_copies, others_kept, own_copies, payer_kept, purse}
 use Rattle.lock.proofs.Costs.{charged as charged_units}
-use Rattle.lock.proofs.Facts.{Before, OneTask, Task, seen, seen_cells, writer}
+use Rattle.lock.proofs.Facts.{Before, Cells, OneTask, Task, seen, seen_cells, writer}
 use Rattle.lock.proofs.Holds.{Holds, at, line_moves, met, seen_at}
 use Rattle.lock.proofs.Judged.{Due, Lawful, account_of_call}
 use Rattle.lock.proofs.Meant.{Meant, Quiet, meant}
 use Rattle.lock.proofs.Opened.{seven_of}
+use Rattle.lock.proofs.Promised.{able, first_record, starts}
 use Rattle.lock.proofs.Runs.{Able, call_able}
 
 -- An account is backed by units, at the ceiling each.
@@ -162,6 +165,10 @@ line_costed top s t r share masks masks' g d less left c =
           | inr other ↦ rw (get_or-set_other rs i j y (fresh Reader) other, ne_eqb j i other) (backed j)
         ]
 
+-- a task that never began has paid nothing
+first_paid : (c : Cells) (j : ℕ) (o : Role) (copies : ℕ → ℕ) → Paid c (seen j (at_rest o)) (purse (record { cost = 0; u = 0; g = 0 }) copies)
+first_paid c j o copies = record { bound = omega arith; line_6 = λ h p q. omega arith; line_22 = λ h p q. omega arith; line_22p2 = λ h p q. omega arith }
+
 -- Any memory that charges by units, at its ceiling each.
 module _ {M : Type 0} (does : Doing M) (masks : M → List ℕ) (top : M → ℕ)
   (law : (m n : M) (t : ℕ) (op : Operation) (share : ℕ) → does m t op share n → ChargedByUnits (Touch op) t (top m) (masks m) share (top n) (masks n)) (limit ceiling : ℕ) where
@@ -214,3 +221,42 @@ module _ {M : Type 0} (does : Doing M) (masks : M → List ℕ) (top : M → ℕ
       let small = at_most_20 r.track.role (seen_at z.records i).rank in
       let few : (b.costed.units i).cost ≤ 20 + 5 * r.account.u + 2 * r.account.g = omega (arith, paid.bound, small, back.u, back.g) in
       omega (arith, back.cost, times_less ceiling _ _ few)
+
+  -- opening writes every cell, so nobody holds a copy then
+
+  abbrev wiped : List Operation → List ℕ → List ℕ
+  wiped [] ms = ms
+  wiped (op ∷ ops) ms = wiped ops (masks_after (Touch op) 1 ms)
+
+  wrote_masks : (ops : List Operation) (m n : M) → top m ≡ ceiling → Wrote does m ops n → (masks n ≡ wiped ops (masks m)) × (top n ≡ ceiling)
+  wrote_masks [] m n e w = (ap masks w, ap top w ∙ e)
+  wrote_masks (op ∷ ops) m n e (k, share, d, w) =
+      let c = law m k 1 op share d in
+      let r = wrote_masks ops k n (c.same_ceiling ∙ e) w in
+      (r.0 ∙ ap (wiped ops) c.left, r.1)
+
+  first_costed : (s : State) (ms : List ℕ) (roles : List ℕ) → Starts roles s → ms ≡ zeros → Costed ceiling s ms
+  first_costed s ms roles starts e =
+      record {
+        seven = ap length e;
+        units = λ j. record { cost = 0; u = 0; g = 0 };
+        paying = λ j. let (o, is) = first_record roles j in rw (starts.2, is) (first_paid (seen_cells s.cells s.waiting) j o (flag ms (suc j)));
+        backed = λ j. let (o, is) = first_record roles j in rw (starts.2, is) (record { cost = omega arith; u = refl; g = refl });
+      }
+
+  pub opened_bounded : (s : State) (m n : M) (roles : List ℕ) → Starts roles s → Able limit s → top m ≡ ceiling → length (masks m) ≡ 7 → Wrote does m opening_writes n → Bounded s n
+  opened_bounded s m n roles starts g e seven w =
+      let r = wrote_masks opening_writes m n e w in
+      record { able = g; costed = first_costed s (masks n) roles starts (r.0 ∙ ap (wiped opening_writes) (seven_of (masks m) seven)); same = r.1 }
+
+module _ {M : Type 0} (does : Doing M) (masks : M → List ℕ) (top : M → ℕ)
+  (law : (m n : M) (t : ℕ) (op : Operation) (share : ℕ) → does m t op share n → ChargedByUnits (Touch op) t (top m) (masks m) share (top n) (masks n)) (limit : ℕ) where
+
+  -- where opening is obeyed the cost bound holds, for the ceiling that the memory has
+  pub opened_cost : (o : Option Refusal) (s z : State) (m n : M) (roles : List ℕ) (r : Result (Unit {0}) Refusal) → open_refusal limit (top m) s roles ≡ o → length (masks m) ≡ 7 → Opens does o s m roles r z n →
+      IfOk r (λ _. CostBound does limit z n (top m))
+  opened_cost None s z m n roles r none seven (ok, w, is) =
+      let ceiling = top m in
+      let first = opened_bounded does masks top law limit ceiling z m n roles (starts limit ceiling s z roles none is) (able limit ceiling s z roles none is) refl seven w in
+      subst (λ x. IfOk x (λ _. CostBound does limit z n (top m))) (sym ok) (λ es y p run t. bound does masks top law limit ceiling y p (run_bounded does masks top law limit ceiling _ es z y n p first run) t)
+  opened_cost (Some e) s z m n roles r none seven (err, same, k) = subst (λ x. IfOk x (λ _. CostBound does limit z n (top m))) (sym err) tt

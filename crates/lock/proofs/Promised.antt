@@ -50,10 +50,10 @@ module _ {M : Type 0} (does : Doing M) (limit : ℕ) (s : State) (m : M) (roles 
 
 -- The state of a lock just opened.
 
-at_first : (roles : List ℕ) (i : ℕ) → (o : Role) × (at (map enlisted roles) i ≡ fresh o)
-at_first [] i = (Reader, refl)
-at_first (b ∷ bs) zero = (role_of b, refl)
-at_first (b ∷ bs) (suc i) = at_first bs i
+pub first_record : (roles : List ℕ) (i : ℕ) → (o : Role) × (at (map enlisted roles) i ≡ fresh o)
+first_record [] i = (Reader, refl)
+first_record (b ∷ bs) zero = (role_of b, refl)
+first_record (b ∷ bs) (suc i) = first_record bs i
 
 count_first : (roles : List ℕ) → length (map enlisted roles) ≡ length roles
 count_first [] = refl
@@ -81,9 +81,9 @@ first_holds roles some =
       count = sym (none_counted roles);
       holders = none_upgraded roles;
       x_cell = omega (arith, count_first roles);
-      x_register = λ i. rw (at_first roles i).1 (omega arith);
-      one = λ i. let (o, is) = at_first roles i in rw is (one_at_rest i o);
-      pair = λ i j n. let (o, is) = at_first roles i in let (p, is') = at_first roles j in rw (is, is') (two_at_rest i j o p);
+      x_register = λ i. rw (first_record roles i).1 (omega arith);
+      one = λ i. let (o, is) = first_record roles i in rw is (one_at_rest i o);
+      pair = λ i j n. let (o, is) = first_record roles i in let (p, is') = first_record roles j in rw (is, is') (two_at_rest i j o p);
       waits = tt;
       distinct = tt;
     }
@@ -117,13 +117,24 @@ asked limit ceiling s roles none =
     let q8 = yes (eqb (length s.waiting) 0) Queued None q7.1 in
     record { some = leb-true 1 n q2.0; few = leb-true n 64 q3.0; two = leb-true 2 limit q5.0; fits = leb-true n limit q6.0; empty = no_one_waits s.waiting (eqb-true (length s.waiting) 0 q8.0) }
 
-module _ {M : Type 0} (does : Doing M) (limit ceiling : ℕ) (s z : State) (m : M) (roles : List ℕ) where
-  pub opened_promises : open_refusal limit ceiling s roles ≡ None → z ≡ opened_to roles s → Promised does limit z m roles
-  opened_promises none is =
+module _ (limit ceiling : ℕ) (s z : State) (roles : List ℕ) (none : open_refusal limit ceiling s roles ≡ None) (is : z ≡ opened_to roles s) where
+  abbrev first : State
+  first = record { number = s.number; opened = true; cells = opening_cells; waiting = []; records = map enlisted roles; table = s.table }
+
+  starts_first : z ≡ first
+  starts_first = is ∙ ap (λ ws. record { number = s.number; opened = true; cells = opening_cells; waiting = ws; records = map enlisted roles; table = s.table }) (asked limit ceiling s roles none).empty
+
+  pub starts : Starts roles z
+  starts = subst (Starts roles) (sym starts_first) (refl, refl, refl)
+
+  pub able : Able limit z
+  able =
       let k = asked limit ceiling s roles none in
-      let first : State = record { number = s.number; opened = true; cells = opening_cells; waiting = []; records = map enlisted roles; table = s.table } in
-      let start : z ≡ first = is ∙ ap (λ ws. record { number = s.number; opened = true; cells = opening_cells; waiting = ws; records = map enlisted roles; table = s.table }) k.empty in
-      let lawful : Lawful first = record { opened = refl; some = omega (arith, count_first roles, k.some); few = omega (arith, count_first roles, k.few); ordered = λ i. let (o, is) = at_first roles i in ap in_order is ∙ fresh_in_order o; holds = first_holds roles k.some } in
-      let able : Able limit first = record { lawful = lawful; fits = omega (arith, count_first roles, k.fits); two = k.two } in
-      let free : unpaid first ≡ first = ap (λ rs. record { number = s.number; opened = true; cells = opening_cells; waiting = []; records = rs; table = s.table }) (first_free roles) in
-      subst (λ (x : State). Promised does limit x m roles) (sym start) (promised does limit first m roles (refl, refl, refl) free able)
+      let lawful : Lawful first = record { opened = refl; some = omega (arith, count_first roles, k.some); few = omega (arith, count_first roles, k.few); ordered = λ i. let (o, is) = first_record roles i in ap in_order is ∙ fresh_in_order o; holds = first_holds roles k.some } in
+      subst (Able limit) (sym starts_first) (record { lawful = lawful; fits = omega (arith, count_first roles, k.fits); two = k.two })
+
+  free : unpaid z ≡ z
+  free = subst (λ (x : State). unpaid x ≡ x) (sym starts_first) (ap (λ rs. record { number = s.number; opened = true; cells = opening_cells; waiting = []; records = rs; table = s.table }) (first_free roles))
+
+  pub opened_promises : {M : Type 0} (does : Doing M) (m : M) → Promised does limit z m roles
+  opened_promises does m = promised does limit z m roles starts free able

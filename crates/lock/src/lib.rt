@@ -2,6 +2,7 @@
 #![tactic(auto)]
 
 mod access;
+pub mod caching;
 pub mod calling;
 mod deeds;
 mod ending;

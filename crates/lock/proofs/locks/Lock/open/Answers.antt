@@ -22,4 +22,4 @@ returns-clause-promises g c =
     let roles = c.args.roles.now in
     let before = view m g.Q.Queue s in
     let asked = c.in_ok-ask_open.ensures in
-    opened_promises m.does m.limit (m.top s.memory) before _ _ roles asked.0 (opened_then m.does (open_refused m g.Q.Queue s roles) before _ s.memory _ roles _ asked.0 (returns-clause-opens g c).0)
+    opened_promises m.limit (m.top s.memory) before _ roles asked.0 (opened_then m.does (open_refused m g.Q.Queue s roles) before _ s.memory _ roles _ asked.0 (returns-clause-opens g c).0) m.does _
