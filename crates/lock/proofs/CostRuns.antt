@@ -142,7 +142,7 @@ line_costed top s t r share masks masks' g d less left c =
     let steps : y.track ≡ settle l k (finds (deed_of l (suc i) k) (suc i) s.cells s.waiting) =
     d.leads.steps (finds due t s.cells s.waiting) ∙ ap (λ p. settle l k (finds p t s.cells s.waiting)) own ∙ ap (λ n. settle l k (finds (deed_of l (suc i) k) n s.cells s.waiting)) (sym is) in
     let P : List ℕ → Type 0 = λ xs. y.track ≡ settle l k (finds (deed_of l (suc i) k) (suc i) xs s.waiting) → Holds xs s.waiting rs → Paying xs s.waiting rs masks c.units →
-        Paying (cells_after (deed_of l (suc i) k) xs) (waiting_after (deed_of l (suc i) k) (suc i) s.waiting) (set rs i y) (masks_after (deed_of l (suc i) k) (suc i) masks) (with_units c.units i (charged_units (account_before l (c.units i)) (unit_share (deed_of l (suc i) k) (suc i) masks))) in
+    Paying (cells_after (deed_of l (suc i) k) xs) (waiting_after (deed_of l (suc i) k) (suc i) s.waiting) (set rs i y) (masks_after (deed_of l (suc i) k) (suc i) masks) (with_units c.units i (charged_units (account_before l (c.units i)) (unit_share (deed_of l (suc i) k) (suc i) masks))) in
     let paid = subst P (sym (seven_of s.cells g.holds.seven)) (λ e h' p. line_paid l (get_or s.cells 0 0) (get_or s.cells 1 0) (get_or s.cells 2 0) (get_or s.cells 3 0) (get_or s.cells 4 0) (get_or s.cells 5 0) (get_or s.cells 6 0) s.waiting rs i h masks c.seven c.units d.leads.before h' p y e) steps g.holds c.paying in
     let Q : Deed → ℕ → Type 0 = λ p n. Paying (cells_after p s.cells) (waiting_after p n s.waiting) (set rs i y) (masks_after p n masks) (with_units c.units i (charged_units (account_before l (c.units i)) (unit_share p n masks))) in
     let paying : Q due t = subst (λ p. Q p t) (sym own) (subst (Q (deed_of l (suc i) k)) is paid) in
@@ -171,8 +171,7 @@ first_paid c j o copies = record { bound = omega arith; line_6 = λ h p q. omega
 
 -- Any memory that charges by units, at its ceiling each.
 module _ {M : Type 0} (does : Doing M) (masks : M → List ℕ) (top : M → ℕ)
-  (law : (m n : M) (t : ℕ) (op : Operation) (share : ℕ) → does m t op share n → ChargedByUnits (Touch op) t (top m) (masks m) share (top n) (masks n)) (limit ceiling : ℕ) where
-
+    (law : (m n : M) (t : ℕ) (op : Operation) (share : ℕ) → does m t op share n → ChargedByUnits (Touch op) t (top m) (masks m) share (top n) (masks n)) (limit ceiling : ℕ) where
   pub record Bounded (s : State) (m : M) : Type 0 where
     pub able : Able limit s
     pub costed : Costed ceiling s (masks m)
@@ -250,8 +249,7 @@ module _ {M : Type 0} (does : Doing M) (masks : M → List ℕ) (top : M → ℕ
       record { able = g; costed = first_costed s (masks n) roles starts (r.0 ∙ ap (wiped opening_writes) (seven_of (masks m) seven)); same = r.1 }
 
 module _ {M : Type 0} (does : Doing M) (masks : M → List ℕ) (top : M → ℕ)
-  (law : (m n : M) (t : ℕ) (op : Operation) (share : ℕ) → does m t op share n → ChargedByUnits (Touch op) t (top m) (masks m) share (top n) (masks n)) (limit : ℕ) where
-
+    (law : (m n : M) (t : ℕ) (op : Operation) (share : ℕ) → does m t op share n → ChargedByUnits (Touch op) t (top m) (masks m) share (top n) (masks n)) (limit : ℕ) where
   -- where opening is obeyed the cost bound holds, for the ceiling that the memory has
   pub opened_cost : (o : Option Refusal) (s z : State) (m n : M) (roles : List ℕ) (r : Result (Unit {0}) Refusal) → open_refusal limit (top m) s roles ≡ o → length (masks m) ≡ 7 → Opens does o s m roles r z n →
       IfOk r (λ _. CostBound does limit z n (top m))

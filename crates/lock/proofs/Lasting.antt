@@ -31,7 +31,7 @@ line_kept : (cs ws : List ℕ) (rs : List Record) (i : ℕ) → i < length rs �
     Holds (cells_after (deed_of l (suc i) (at rs i).track) cs) (waiting_after (deed_of l (suc i) (at rs i).track) (suc i) ws) (set rs i r)
 line_kept cs ws rs i h l b r is g =
     let P : List ℕ → Type 0 = λ xs. r.track ≡ settle l (at rs i).track (finds (deed_of l (suc i) (at rs i).track) (suc i) xs ws) → Holds xs ws rs →
-        Holds (cells_after (deed_of l (suc i) (at rs i).track) xs) (waiting_after (deed_of l (suc i) (at rs i).track) (suc i) ws) (set rs i r) in
+    Holds (cells_after (deed_of l (suc i) (at rs i).track) xs) (waiting_after (deed_of l (suc i) (at rs i).track) (suc i) ws) (set rs i r) in
     subst P (sym (seven_of cs g.seven)) (λ is' g'. line_keeps l (get_or cs 0 0) (get_or cs 1 0) (get_or cs 2 0) (get_or cs 3 0) (get_or cs 4 0) (get_or cs 5 0) (get_or cs 6 0) ws rs i h r is' b g') is g
 
 -- every record is in order where one is replaced by one that is

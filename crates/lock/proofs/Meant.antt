@@ -107,7 +107,7 @@ meant (take w t) s g =
     let free = take_refusal (right_of r.track) r.out w in
     let v = at_once (hands w s.number t) (with_record s t (with_out r (Some w))) in
     asked_meant s (task_refusal s t) (asked free v) (own_task s t) (λ there. asked_meant s free v (own_take (right_of r.track) r.out w) (λ may.
-      quiet_pass s t (Some w) (hands w s.number t) tt (pass_lawful s t (Some w) g (out_in_order r w (g.ordered (t - 1)) may))))
+    quiet_pass s t (Some w) (hands w s.number t) tt (pass_lawful s t (Some w) g (out_in_order r w (g.ordered (t - 1)) may))))
 meant (lay_back w k t) s g =
     let r = record_of s t in
     asked_meant s (pass_refusal s w k t) (at_once done (with_record s t (with_out r None))) (own_pass s w k t) (λ out. quiet_pass s t None done tt (pass_lawful s t None g (back_in_order r (g.ordered (t - 1)))))
@@ -115,18 +115,18 @@ meant (upgrade k t) s g =
     let r = record_of s t in
     let few = upgrade_refusal r in
     asked_meant s (pass_refusal s Reading k t) (asked few (line t (upgrading r))) (own_pass s Reading k t) (λ out.
-      asked_meant s few (line t (upgrading r)) (own_ask (ltb r.account.u 1000) Upgrades None (lit≤ tt) tt) (λ free. due_upgrade s t g (pass_there s Reading k t g out) free))
+    asked_meant s few (line t (upgrading r)) (own_ask (ltb r.account.u 1000) Upgrades None (lit≤ tt) tt) (λ free. due_upgrade s t g (pass_there s Reading k t g out) free))
 meant (downgrade k t) s g = asked_meant s (pass_refusal s Writing k t) (line t (downgrading (record_of s t))) (own_pass s Writing k t) (λ out. due_downgrade s t g (pass_there s Writing k t g out))
 meant (leave w k t) s g = asked_meant s (pass_refusal s w k t) (line t (leaving (record_of s t))) (own_pass s w k t) (λ out. due_leave s t g w (pass_there s w k t g out))
 meant (read w k t row) s g =
     let v = at_once (row_answer (get_or s.table row 0)) s in
     let there = row_refusal row (length s.table) in
     asked_meant s (pass_refusal s w k t) (asked there v) (own_pass s w k t) (λ out. asked_meant s there v (own_row row (length s.table)) (λ is.
-      record { own = own_row_answer (get_or s.table row 0); lawful = g; cells = refl; waiting = refl; tracks = record { count = refl; each = λ i. refl }; accounts = λ i. refl }))
+    record { own = own_row_answer (get_or s.table row 0); lawful = g; cells = refl; waiting = refl; tracks = record { count = refl; each = λ i. refl }; accounts = λ i. refl }))
 meant (put k t row n) s g =
     let v = at_once done (with_row s row n) in
     let there = row_refusal row (length s.table) in
     let fits = thickness_refusal n in
     asked_meant s (pass_refusal s Writing k t) (asked there (asked fits v)) (own_pass s Writing k t) (λ out.
-      asked_meant s there (asked fits v) (own_row row (length s.table)) (λ is. asked_meant s fits v (own_thickness n) (λ may.
-        record { own = tt; lawful = row_lawful s row n g; cells = refl; waiting = refl; tracks = record { count = refl; each = λ i. refl }; accounts = λ i. refl })))
+    asked_meant s there (asked fits v) (own_row row (length s.table)) (λ is. asked_meant s fits v (own_thickness n) (λ may.
+    record { own = tt; lawful = row_lawful s row n g; cells = refl; waiting = refl; tracks = record { count = refl; each = λ i. refl }; accounts = λ i. refl })))

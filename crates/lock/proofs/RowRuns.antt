@@ -72,7 +72,7 @@ judged_leaves row (leave w k t) s = asked_leaves row (leave w k t) s (pass_refus
 judged_leaves row (read w k t r) s = asked_leaves row (read w k t r) s (pass_refusal s w k t) _ (λ h. asked_leaves row (read w k t r) s (row_refusal r (length s.table)) (at_once (row_answer (get_or s.table r 0)) s) (λ e. refl))
 judged_leaves row (put k t r n) s =
     asked_leaves row (put k t r n) s (pass_refusal s Writing k t) _ (λ h.
-      asked_leaves row (put k t r n) s (row_refusal r (length s.table)) _ (λ there. asked_leaves row (put k t r n) s (thickness_refusal n) (at_once done (with_row s r n)) (λ e. put_leaves row k t r n s there)))
+    asked_leaves row (put k t r n) s (row_refusal r (length s.table)) _ (λ there. asked_leaves row (put k t r n) s (thickness_refusal n) (at_once done (with_row s r n)) (λ e. put_leaves row k t r n s there)))
 
 lined_leaves : (o : Option Refusal) (t : ℕ) (r : Record) (d : Deed) (share : ℕ) (s : State) → (lined o t r d share s).1.table ≡ s.table
 lined_leaves None t r d share s = refl
@@ -137,7 +137,7 @@ judged_still (leave w k u) s t g low r = asked_still s (pass_refusal s w k u) (l
 judged_still (read w k u row) s t g low r = asked_still s (pass_refusal s w k u) _ (λ h. asked_still s (row_refusal row (length s.table)) (at_once (row_answer (get_or s.table row 0)) s) (λ e. refl))
 judged_still (put k u row n) s t g low r =
     asked_still s (pass_refusal s Writing k u) (asked (row_refusal row (length s.table)) (asked (thickness_refusal n) (at_once done (with_row s row n)))) (λ out.
-      let p = pass_there s Writing k u g out in absurd (no_writer s t u g low p.low r p.right))
+    let p = pass_there s Writing k u g out in absurd (no_writer s t u g low p.low r p.right))
 
 module _ {M : Type 0} (does : Doing M) (limit : ℕ) where
   carried_still : (v : Verdict) (s z : State) (m n : M) (a : Answer) → Still s v → Carried does limit v s m a z n → z.table ≡ s.table
