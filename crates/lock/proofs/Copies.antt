@@ -18,33 +18,12 @@ use Rattle.lines.specs.declared.place.Line.TheVariants.{L0p1, L0p2, L2, L10, L19
 use Rattle.lines.specs.declared.track.Track.{Track}
 use Rattle.lines.specs.Lines.{deed_of}
 use Rattle.calls.specs.Steps.{Shares}
+use Rattle.lock.specs.Counted.{CostsOne, masks_after, unit_share}
 use Rattle.lock.proofs.Costs.{Units, charge, other_copies, own_copies, purse}
 
 -- 1 where task t holds a copy of cell k, else 0
 abbrev pub flag : List ℕ → ℕ → ℕ → ℕ
 flag masks t k = cond (holds (get_or masks k 0) t) 1 0
-
--- the masks after a deed of task t
-abbrev pub masks_after : Deed → ℕ → List ℕ → List ℕ
-masks_after (Touch (Read c)) t masks = cond (holds (get_or masks c 0) t) masks (set masks c (joined (get_or masks c 0) t))
-masks_after (Touch (Write c n)) t masks = set masks c 0
-masks_after (Touch (Add c s)) t masks = set masks c 0
-masks_after (Touch (Swap c e n)) t masks = set masks c 0
-masks_after Join t masks = masks
-masks_after First t masks = masks
-masks_after Quit t masks = masks
-masks_after Nothing t masks = masks
-
--- the units that the deed costs the task
-abbrev pub unit_share : Deed → ℕ → List ℕ → ℕ
-unit_share (Touch (Read c)) t masks = cond (holds (get_or masks c 0) t) 0 1
-unit_share (Touch (Write c n)) t masks = 1
-unit_share (Touch (Add c s)) t masks = 1
-unit_share (Touch (Swap c e n)) t masks = 1
-unit_share Join t masks = 0
-unit_share First t masks = 0
-unit_share Quit t masks = 0
-unit_share Nothing t masks = 0
 
 -- a deed that touches a cell touches one of the seven
 abbrev pub TouchesKnown : Deed → Type 0
@@ -168,3 +147,35 @@ module _ {M : Type 0} (does : Doing M) (masks : M → List ℕ) (top : M → ℕ
   deed_charged First m n t share e = untouched m n share e
   deed_charged Quit m n t share e = untouched m n share e
   deed_charged Nothing m n t share e = untouched m n share e
+
+-- Where each operation below costs 1, the charge is the units.
+
+pub record Exact (units : ℕ) (masks : List ℕ) (share : ℕ) (masks' : List ℕ) : Type 0 where
+  pub paid : share ≡ units
+  pub left : masks' ≡ masks
+
+abbrev pub ExactUnits : Deed → ℕ → List ℕ → ℕ → List ℕ → Type 0
+ExactUnits d t masks share masks' = Exact (unit_share d t masks) (masks_after d t masks) share masks'
+
+module _ {S : Type 0} (does : Doing S) (one : CostsOne does) where
+  pub cached_exact : (s t : S) (masks masks' : List ℕ) (task : ℕ) (op : Operation) (share : ℕ) → Cached does s masks task op share t masks' → ExactUnits (Touch op) task masks share masks'
+  cached_exact s t masks masks' task (Read c) share d =
+      let more = set masks c (joined (get_or masks c 0) task) in
+      (elim (holds (get_or masks c 0) task) as (λ v. MatchBool v ((share ≡ 0) × (t ≡ s) × (masks' ≡ masks)) (does s task (Read c) share t × (masks' ≡ more)) → Exact (cond v 0 1) (cond v masks more) share masks') [
+        | true ↦ λ e. record { paid = e.0; left = e.2 }
+        | false ↦ λ e. record { paid = one s t task (Read c) share e.0; left = e.1 }
+      ]) d
+  cached_exact s t masks masks' task (Write c n) share d = record { paid = one s t task (Write c n) share d.0; left = d.1 }
+  cached_exact s t masks masks' task (Add c p) share d = record { paid = one s t task (Add c p) share d.0; left = d.1 }
+  cached_exact s t masks masks' task (Swap c e n) share d = record { paid = one s t task (Swap c e n) share d.0; left = d.1 }
+
+module _ {M : Type 0} (does : Doing M) (masks : M → List ℕ) (law : (m n : M) (t : ℕ) (op : Operation) (share : ℕ) → does m t op share n → ExactUnits (Touch op) t (masks m) share (masks n)) where
+  untouched_exact : (m n : M) (share : ℕ) → (share ≡ 0) × (n ≡ m) → Exact 0 (masks m) share (masks n)
+  untouched_exact m n share e = record { paid = e.0; left = ap masks e.1 }
+
+  pub deed_exact : (d : Deed) (m n : M) (t share : ℕ) → Shares does m t d share n → ExactUnits d t (masks m) share (masks n)
+  deed_exact (Touch op) m n t share e = law m n t op share e
+  deed_exact Join m n t share e = untouched_exact m n share e
+  deed_exact First m n t share e = untouched_exact m n share e
+  deed_exact Quit m n t share e = untouched_exact m n share e
+  deed_exact Nothing m n t share e = untouched_exact m n share e

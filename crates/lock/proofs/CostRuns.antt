@@ -27,7 +27,8 @@ use Rattle.calls.specs.Steps.{Answer, Call, Calls, Carried, LineShares, Verdict,
 use Rattle.lock.specs.Promises.{CostBound, Starts}
 use Rattle.lock.specs.Runs.{Made, Run, RunWhile}
 use Rattle.lock.proofs.Allowed.{allowed}
-use Rattle.lock.proofs.Copies.{ChargedByUnits, deed_charged, flag, length-masks_after, masks_after, purse_other, purse_own, touches_known, unit_share, unit_share-charge}
+use Rattle.lock.specs.Counted.{masks_after, unit_share}
+use Rattle.lock.proofs.Copies.{ChargedByUnits, deed_charged, flag, length-masks_after, purse_other, purse_own, touches_known, unit_share-charge}
 use Rattle.lock.proofs.Costs.{Paid, Units, account_before, at_most_20, charge, other_copies, others_kept, own_copies, payer_kept, purse}
 use Rattle.lock.proofs.Costs.{charged as charged_units}
 use Rattle.lock.proofs.Facts.{Before, Cells, OneTask, Task, seen, seen_cells, writer}

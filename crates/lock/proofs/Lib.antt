@@ -17,3 +17,4 @@ pub mod Promised
 pub mod Costs
 pub mod Copies
 pub mod CostRuns
+pub mod ExactRuns

@@ -4,5 +4,6 @@ pub mod Performed
 pub mod Answers
 pub mod Runs
 pub mod Model
+pub mod Counted
 pub mod Rows
 pub mod Promises

@@ -12,6 +12,7 @@ use Rattle.calls.specs.Questions.{pass_refusal, row_refusal}
 use Rattle.calls.specs.Refusals.{refusal_number}
 use Rattle.calls.specs.States.{State, record_of}
 use Rattle.calls.specs.Steps.{Answer, Call, Calls, Verdict, after_deed, at_once, done, gives, hands, judge, line, no, read, refuse, row_answer}
+use Rattle.lock.specs.Counted.{counted_run}
 use Rattle.lock.specs.Model.{model_run, unpaid}
 use Rattle.lock.specs.Rows.{last_put}
 use Rattle.lock.specs.Runs.{Made, Run, RunWhile}
@@ -82,7 +83,12 @@ module _ {M : Type 0} (does : Doing M) (limit : ℕ) (s : State) (m : M) where
   abbrev pub CostBound : ℕ → Type 0
   CostBound top = Always (λ es z n. (t : ℕ) → (record_of z t).account.cost ≤ top * (20 + 5 * (record_of z t).account.u + 2 * (record_of z t).account.g))
 
-  -- all of them, of a lock just opened with these roles
+  -- exact costs, over the cache layer on a memory whose operations cost 1: but for the answers, which obedience tells, state and
+  -- copies are to the unit what the counted calls make of them
+  abbrev pub ExactCosts : (M → List ℕ) → Type 0
+  ExactCosts masks = Always (λ es z n. (z ≡ (counted_run (map (λ e. e.call) es) (record { state = s; masks = masks m })).state) × (masks n ≡ (counted_run (map (λ e. e.call) es) (record { state = s; masks = masks m })).masks))
+
+  -- all that holds over any memory and any queue, of a lock just opened with these roles
   pub record Promised (roles : List ℕ) : Type 0 where
     pub starts : Starts roles s
     pub exclusion : Exclusion
