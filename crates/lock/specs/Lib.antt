@@ -7,3 +7,4 @@ pub mod Model
 pub mod Counted
 pub mod Rows
 pub mod Promises
+pub mod Cases

@@ -3,6 +3,7 @@
 
 mod access;
 pub mod caching;
+pub mod cases;
 pub mod calling;
 mod deeds;
 mod ending;
