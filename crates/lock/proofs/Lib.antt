@@ -18,3 +18,4 @@ pub mod Costs
 pub mod Copies
 pub mod CostRuns
 pub mod ExactRuns
+pub mod Answering

@@ -8,3 +8,4 @@ pub mod Counted
 pub mod Rows
 pub mod Promises
 pub mod Cases
+pub mod Answering

@@ -1,0 +1,42 @@
+-- Each call has an answer over a memory that does what it does not refuse.
+use Rattle.std.proofs.Common.{◌≡◌, ℕ, List, Some, None, Option, sym, refl, ap, ◌∙◌, subst, arith}
+use Rattle.memory.specs.declared.interface.Memory.{Ghosts}
+use Rattle.memory.specs.declared.refusal.Refusal.{Refusal as MemoryRefusal}
+use Rattle.memory.specs.Operations.{after, refusal}
+use Rattle.lines.specs.declared.deed.Deed.{Deed}
+use Rattle.lines.specs.declared.deed.Deed.TheVariants.{Touch, Join, First, Quit, Nothing}
+use Rattle.lines.specs.Lines.{next_deed}
+use Rattle.calls.specs.declared.record.Record.{Record}
+use Rattle.calls.specs.declared.refusal.Refusal.{Refusal}
+use Rattle.calls.specs.States.{State}
+use Rattle.calls.specs.Steps.{Answer, Carried, LineShares, Shares, Verdict, after_deed, at_once, by_memory, deed_refusal, done, judge, line, lined, no, refuse}
+use Rattle.lock.specs.Answering.{EachAnswers, Total, numbers_alone}
+
+module _ {M : Type 0} (mem : Ghosts M) (total : Total mem) where
+  not_refused : (o : Option MemoryRefusal) → by_memory o ≡ None → o ≡ None
+  not_refused None h = refl
+  not_refused (Some e) h = absurd (let z : ◌≡◌ {A = ℕ} 0 1 = cc in omega arith)
+
+  some_share : (d : Deed) (t : ℕ) (s : State) (m : M) → s.cells ≡ mem.cells m → deed_refusal mem.limit t d s.cells s.waiting ≡ None → (share : ℕ) × (n : M) × Shares mem.does m t d share n
+  some_share (Touch op) t s m is free = total m t op (subst (λ cs. refusal mem.limit t op cs ≡ None) is (not_refused (refusal mem.limit t op s.cells) free))
+  some_share Join t s m is free = (0, m, (refl, refl))
+  some_share First t s m is free = (0, m, (refl, refl))
+  some_share Quit t s m is free = (0, m, (refl, refl))
+  some_share Nothing t s m is free = (0, m, (refl, refl))
+
+  line_answers : (o : Option Refusal) (t : ℕ) (r : Record) (s : State) (m : M) → s.cells ≡ mem.cells m → deed_refusal mem.limit t (next_deed t r.track) s.cells s.waiting ≡ o → (a : Answer) × (z : State) × (n : M) × Carried mem.does mem.limit (line t r) s m a z n
+  line_answers None t r s m is free =
+      let (share, n, d) = some_share (next_deed t r.track) t s m is free in
+      (done, after_deed t r (next_deed t r.track) share s, n, (share, rw free d, rw free refl, rw free refl))
+  line_answers (Some e) t r s m is why = (no e, s, m, (0, rw why (refl, refl), rw why refl, rw why refl))
+
+  answers : (v : Verdict) (s : State) (m : M) → s.cells ≡ mem.cells m → (a : Answer) × (z : State) × (n : M) × Carried mem.does mem.limit v s m a z n
+  answers (refuse e) s m is = (no e, s, m, (0, (refl, refl), refl, refl))
+  answers (line t r) s m is = line_answers _ t r s m is refl
+  answers (at_once a z) s m is = (a, z, m, (0, (refl, refl), refl, refl))
+
+  pub each_answers : EachAnswers mem
+  each_answers c s m is = answers (judge c s) s m is
+
+pub numbers_total : (limit : ℕ) → Total (numbers_alone limit)
+numbers_total limit ns t op free = (1, after op ns, (refl, refl))
