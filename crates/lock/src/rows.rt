@@ -1,12 +1,12 @@
-// The rows of the table, for those who show a pass.
+// The rows of the table, read and put by those who show a pass.
 ghost use Rattle.std.specs.Prelude.{◌≡◌, ◌<◌};
-ghost use Rattle.calls.specs.Questions.{row_refusal};
-ghost use Rattle.calls.specs.Steps.{read, row_answer};
-ghost use Rattle.lock.specs.Answers.{Asked, row_told};
+ghost use Rattle.calls.specs.Questions.{row_refusal, thickness_refusal};
+ghost use Rattle.calls.specs.Steps.{put, read, row_answer};
+ghost use Rattle.lock.specs.Answers.{Asked, row_told, said};
 ghost use Rattle.lock.specs.View.{Does};
 
 use crate::locks::Lock;
-use crate::pass::{Bears, Pass};
+use crate::pass::{Bears, Pass, WritePass, Writing};
 use calls::refusal::Refusal;
 use memory::interface::Memory;
 use queue::interface::Queue;
@@ -25,6 +25,26 @@ fn answer_of(number: u32) -> Result<Option<u32>, Refusal>
     }
 }
 
+// Whether a table with so many rows has this one. Refused: 30.
+fn ask_row(row: usize, rows: usize) -> Result<(), Refusal>
+    ensures { Asked (row_refusal row rows) result (row < rows) }
+{
+    if row >= rows {
+        return Err(Refusal::NoRow);
+    }
+    Ok(())
+}
+
+// Whether a row may get this thickness. Refused: 31.
+fn ask_thickness(thickness: u32) -> Result<(), Refusal>
+    ensures { Asked (thickness_refusal thickness) result (Unit {0}) }
+{
+    if thickness < 1 || thickness > 1000000 {
+        return Err(Refusal::Thickness);
+    }
+    Ok(())
+}
+
 impl<'a, M: Memory, Q: Queue> Lock<'a, M, Q> {
     // The thickness in a row, or nothing where nobody has measured the rib. Refused: 10, 27, 28, 30, 32.
     pub fn read<R: Bears>(&self, pass: &Pass<R>, row: usize) -> Result<Option<u32>, Refusal>
@@ -32,5 +52,17 @@ impl<'a, M: Memory, Q: Queue> Lock<'a, M, Q> {
     {
         self.holder(pass)?;
         answer_of(*self.table.get(row).ok_or(Refusal::NoRow)?)
+    }
+
+    // Puts a thickness into a row, for a writing pass that is only shown. Refused: 10, 27, 28, 30, 31.
+    // (By index, since of a slice that `get_mut` lent out a proof knows the length alone.)
+    pub fn put(&mut self, pass: &WritePass, row: usize, thickness: u32) -> Result<(), Refusal>
+        ensures { Does M.Memory Q.Queue (put pass.now.lock pass.now.task row thickness) self.old (said result) self.new }
+    {
+        self.holder::<Writing>(pass)?;
+        ask_row(row, self.table.len())?;
+        ask_thickness(thickness)?;
+        self.table[row] = thickness;
+        Ok(())
     }
 }

@@ -231,12 +231,17 @@ fn finished_attempts(rt: HostRuntime) -> Result<(), Fail> {
 }
 
 // Calls with a pass ask for the lock first, then for its number, then whether the pass is out.
-fn with_a_pass(lock: &mut Lock<'_, Cache<Words>, Ring>, number: u32, task: u32) -> [u32; 4] {
+fn with_a_pass(lock: &mut Lock<'_, Cache<Words>, Ring>, number: u32, task: u32) -> [u32; 5] {
+    let shown = WritePass::new(number, task);
+    // there is no row 16, and 0 is no thickness
+    let put = put(lock, &shown, 16, 0);
+    shown.end();
     [
         refused_back(lock.upgrade(ReadPass::new(number, task))),
         refused_back(lock.downgrade(WritePass::new(number, task))),
         refused_back(lock.leave(ReadPass::new(number, task))),
         refused_back(lock.leave(WritePass::new(number, task))),
+        put,
     ]
 }
 
@@ -244,13 +249,13 @@ fn with_a_pass(lock: &mut Lock<'_, Cache<Words>, Ring>, number: u32, task: u32) 
 fn refusals_of_a_pass(rt: HostRuntime) -> Result<(), Fail> {
     let mut rows = [0; 16];
     let mut lock = closed(&mut rows);
-    assert_eq!(rt; with_a_pass(&mut lock, 2, 0), [10; 4]);
+    assert_eq!(rt; with_a_pass(&mut lock, 2, 0), [10; 5]);
     lock.open(b"RW")?;
-    assert_eq!(rt; with_a_pass(&mut lock, 2, 0), [27; 4]);
-    assert_eq!(rt; with_a_pass(&mut lock, 1, 0), [28; 4]);
-    assert_eq!(rt; with_a_pass(&mut lock, 1, 3), [28; 4]);
+    assert_eq!(rt; with_a_pass(&mut lock, 2, 0), [27; 5]);
+    assert_eq!(rt; with_a_pass(&mut lock, 1, 0), [28; 5]);
+    assert_eq!(rt; with_a_pass(&mut lock, 1, 3), [28; 5]);
     enter(&mut lock, 1)?;
-    assert_eq!(rt; with_a_pass(&mut lock, 1, 1), [28; 4]);
+    assert_eq!(rt; with_a_pass(&mut lock, 1, 1), [28; 5]);
     Ok(())
 }
 
@@ -383,6 +388,70 @@ fn rows_read(lock: &mut Lock<'_, Cache<Words>, Ring>) -> [u32; 8] {
         row_of(lock, &pass, 4),
         row_of(lock, &other, 0),
         row_of(lock, &nobody, 0),
+        refused_back(lock.lay_back(pass)),
+    ];
+    other.end();
+    nobody.end();
+    told
+}
+
+// The number of the refusal of a put, and 0 where it was obeyed.
+fn put(
+    lock: &mut Lock<'_, Cache<Words>, Ring>,
+    pass: &WritePass,
+    row: usize,
+    thickness: u32,
+) -> u32 {
+    match lock.put(pass, row, thickness) {
+        Ok(()) => 0,
+        Err(why) => why.number(),
+    }
+}
+
+// A refused put leaves the row, an obeyed one no other row, and the pass is still out after both.
+#[test]
+fn rows_of_a_put(rt: HostRuntime) -> Result<(), Fail> {
+    let mut rows = [0, 7, 1000001, 8];
+    let mut lock = closed(&mut rows);
+    lock.open(b"W")?;
+    enter(&mut lock, 1)?;
+    assert_eq!(rt; thicknesses(&mut lock), [31, 31, 7, 0, 1, 0, 1000000]);
+    assert_eq!(rt; edges(&mut lock), [30, 30, 27, 28, 0, 0]);
+    assert_eq!(rt; rows, [0, 1000000, 1000001, 9]);
+    Ok(())
+}
+
+// Row 1 after a thickness that is too small and one that is too large, and after the smallest and the largest.
+fn thicknesses(lock: &mut Lock<'_, Cache<Words>, Ring>) -> [u32; 7] {
+    let Ok(pass) = lock.take::<Writing>(1) else {
+        return [99; 7];
+    };
+    let told = [
+        put(lock, &pass, 1, 0),
+        put(lock, &pass, 1, 1000001),
+        row_of(lock, &pass, 1),
+        put(lock, &pass, 1, 1),
+        row_of(lock, &pass, 1),
+        put(lock, &pass, 1, 1000000),
+        row_of(lock, &pass, 1),
+    ];
+    let _ = refused_back(lock.lay_back(pass));
+    told
+}
+
+// A row past the end with a thickness and without, another lock's pass and one that is not out, the last row, and laying back.
+fn edges(lock: &mut Lock<'_, Cache<Words>, Ring>) -> [u32; 6] {
+    let Ok(pass) = lock.take::<Writing>(1) else {
+        return [99; 6];
+    };
+    let other = WritePass::new(2, 1);
+    let nobody = WritePass::new(1, 2);
+    let told = [
+        put(lock, &pass, 4, 1),
+        put(lock, &pass, 4, 0),
+        put(lock, &other, 4, 0),
+        put(lock, &nobody, 4, 0),
+        put(lock, &pass, 3, 9),
         refused_back(lock.lay_back(pass)),
     ];
     other.end();

@@ -44,3 +44,9 @@ module _ {M Q : Type 0} (mem : MemoryGhosts M) (que : QueueGhosts Q) (w : Right)
     showed row r made laid says =
         let there = same_task (view mem que m) (view mem que n) t (call_same mem.does mem.limit (view mem que m) (view mem que n) m.memory n.memory (lay_back w k u) done laid.0) pass.there in
         (hands w k u, m, took, (gives row, m, made, laid, says ∙ told_all _ _ there))
+
+    -- or it gave nothing but that it was obeyed
+    pub showed_and_did : (r : Result Answer Refusal) (l' : Lock M Q) → Does mem que (c w k u) m done n → Does mem que (lay_back w k u) n done l' → r ≡ told (task_refusal (view mem que l') t) (task_shown (view mem que l') t) → TakesAndUses mem que w t false c l r l'
+    showed_and_did r l' made laid says =
+        let there = same_task (view mem que n) (view mem que l') t (call_same mem.does mem.limit (view mem que n) (view mem que l') n.memory l'.memory (lay_back w k u) done laid.0) (still_there done made) in
+        (hands w k u, m, took, (done, n, made, laid, says ∙ told_all _ _ there))

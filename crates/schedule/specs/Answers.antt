@@ -18,7 +18,7 @@ use Rattle.calls.specs.Steps as calls
 use Rattle.lock.specs.declared.locks.Lock.{Lock}
 use Rattle.lock.specs.Answers.{said}
 use Rattle.lock.specs.View.{view, Does, Opened}
-use Rattle.script.specs.Calls.{Ask, opening, begin, advance, upgrade, downgrade, leave, read}
+use Rattle.script.specs.Calls.{Ask, opening, begin, advance, upgrade, downgrade, leave, read, put}
 use Rattle.listing.specs.declared.answer.Place.{Place as Shown}
 use Rattle.listing.specs.declared.answer.Place.TheVariants as shown
 use Rattle.listing.specs.declared.answer.Answer.{Answer}
@@ -104,3 +104,4 @@ module _ {M Q : Type 0} (mem : MemoryGhosts M) (que : QueueGhosts Q) where
   Tells l (downgrade t) r l' = TakesAndUses Writing t true (λ w. calls.downgrade) l r l'
   Tells l (leave t) r l' = ByRight (right_told (view mem que l) t) t true calls.leave l r l'
   Tells l (read t row) r l' = ByRight (right_told (view mem que l) t) t false (λ w k u. calls.read w k u row) l r l'
+  Tells l (put t row n) r l' = TakesAndUses Writing t false (λ w k u. calls.put k u row n) l r l'

@@ -12,7 +12,7 @@ use Rattle.script.specs.declared.call.MemoryKind.{MemoryKind}
 use Rattle.script.specs.declared.call.MemoryKind.TheVariants.{Words, Packed}
 use Rattle.script.specs.declared.call.QueueKind.{QueueKind}
 use Rattle.script.specs.declared.call.QueueKind.TheVariants.{Ring, Masks}
-use Rattle.script.specs.Calls.{Ask, opening, begin, advance, upgrade, downgrade, leave, read}
+use Rattle.script.specs.Calls.{Ask, opening, begin, advance, upgrade, downgrade, leave, read, put}
 use Rattle.listing.specs.declared.answer.Answer.{Answer}
 use Rattle.schedule.specs.declared.desk.Desk.{Desk}
 use Rattle.schedule.specs.declared.desk.Pair.{Pair}
@@ -28,6 +28,7 @@ pair_for None (upgrade t) = None
 pair_for None (downgrade t) = None
 pair_for None (leave t) = None
 pair_for None (read t row) = None
+pair_for None (put t row n) = None
 
 -- a lock that is as it was
 abbrev pub Same : {L : Type 0} → MutBor L → MutBor L → Type 0

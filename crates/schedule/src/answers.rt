@@ -6,7 +6,7 @@ ghost use Rattle.lock.specs.View.{view};
 ghost use Rattle.script.specs.Calls.{ask};
 ghost use Rattle.schedule.specs.Answers.{OpensTo, Tells, place_shown, row_shown, task_shown};
 
-use crate::passes::{downgrade, leave, read, upgrade};
+use crate::passes::{downgrade, leave, put, read, upgrade};
 use calls::refusal::Refusal;
 use lines::place::{Place, Right};
 use listing::answer::{Answer, Place as Shown};
@@ -83,5 +83,6 @@ pub(crate) fn answer<M: Memory, Q: Queue>(
         Call::Downgrade(task) => downgrade(lock, task),
         Call::Leave(task) => leave(lock, task),
         Call::Read(task, row) => read(lock, task, row),
+        Call::Put(task, row, thickness) => put(lock, task, row, thickness),
     }
 }

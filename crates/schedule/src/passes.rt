@@ -2,7 +2,7 @@
 ghost use Rattle.std.specs.Prelude.{◌≡◌, true, false, None as nothing};
 ghost use Rattle.lines.specs.declared.place.Right.TheVariants.{Reading as reading, Writing as writing};
 ghost use Rattle.calls.specs.Questions.{pass_refusal};
-ghost use Rattle.calls.specs.Steps.{done, downgrade as line_downgrade, lay_back, leave as line_leave, read as row_read, upgrade as line_upgrade};
+ghost use Rattle.calls.specs.Steps.{done, downgrade as line_downgrade, lay_back, leave as line_leave, put as row_put, read as row_read, upgrade as line_upgrade};
 ghost use Rattle.calls.specs.Told.{right_told};
 ghost use Rattle.lock.specs.View.{Does, view};
 ghost use Rattle.schedule.specs.Answers.{ByRight, TakesAndUses};
@@ -122,4 +122,20 @@ pub(crate) fn read<M: Memory, Q: Queue>(
         Some(Right::Writing) => read_with::<M, Q, Writing>(lock, task, row),
         None => Err(Refusal::Outside),
     }
+}
+
+// A thickness into a row, by a writing pass, and where the task then is.
+pub(crate) fn put<M: Memory, Q: Queue>(
+    lock: &mut Lock<'_, M, Q>,
+    task: u32,
+    row: u32,
+    thickness: u32,
+) -> Result<Answer, Refusal>
+    ensures { TakesAndUses M.Memory Q.Queue writing task false (λ w k u. row_put k u row thickness) lock.old result lock.new }
+{
+    let pass = lock.take::<Writing>(task)?;
+    let made = lock.put(&pass, row as usize, thickness);
+    put_back(lock, pass);
+    made?;
+    moved(lock, task)
 }

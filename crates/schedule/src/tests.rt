@@ -119,6 +119,32 @@ fn passes(rt: HostRuntime) -> Result<(), Fail> {
     )
 }
 
+// A writer puts the smallest and the largest thickness into the first row and the last, and leaves; then a reader
+// finds them, and may put none.
+#[test]
+fn puts_of_a_writer(rt: HostRuntime) -> Result<(), Fail> {
+    lists(
+        &rt,
+        b"P 1 0 5\nP 0 99 0\nP 1 0\n",
+        b"1 no 10\n2 no 10\n3 no 41\n",
+    )?;
+    lists_on_each!(
+        &rt,
+        "RW\nE 2\nS 2\nS 2\nS 2\nS 2\nS 2\nS 2\nS 2\nS 2\nS 2\nS 2\nS 2\nS 2\nS 2\nP 2 0 0\nP 2 0 1000001\nR 2 0\nP 2 0 1\nR 2 0\nP 2 15 1000000\nP 2 16 0\nP 2 4294967295 4294967295\nP 1 0 5\nP 3 0 5\nL 2\nP 2 0 5\nS 2\nS 2\nE 1\nS 1\nS 1\nS 1\nS 1\nS 1\nS 1\nS 1\nR 1 0\nR 1 1\nR 1 15\nP 1 0 5\nP 1 16 0\n",
+        b"1 ok 2\n2 ok 2 0\n3 ok 10 0\n4 ok 20 1\n5 ok 30 1\n6 ok 40 2\n7 ok 90 3\n8 ok 100 4\n9 ok 110 4\n10 ok 120 5\n11 ok 130 6\n12 ok 140 7\n13 ok 150 8\n14 ok 60 9\n15 ok w 10\n16 no 31\n17 no 31\n18 ok w 10 absent\n19 ok w 10\n20 ok w 10 1\n21 ok w 10\n22 no 30\n23 no 30\n24 no 24\n25 no 20\n26 ok 80 11\n27 no 24\n28 ok 321 12\n29 ok - 12\n30 ok 161 1\n31 ok 170 2\n32 ok 180 3\n33 ok 190 4\n34 ok 200 4\n35 ok 210 5\n36 ok 221 6\n37 ok r 7\n38 ok r 7 1\n39 ok r 7 absent\n40 ok r 7 1000000\n41 no 26\n42 no 26\n"
+    )
+}
+
+// A reader may put while it is upgraded, and neither before nor after.
+#[test]
+fn puts_of_an_upgraded_reader(rt: HostRuntime) -> Result<(), Fail> {
+    lists_on_each!(
+        &rt,
+        "R\nE 1\nS 1\nS 1\nS 1\nS 1\nS 1\nS 1\nS 1\nP 1 3 4200\nU 1\nS 1\nS 1\nS 1\nS 1\nP 1 3 4200\nR 1 3\nD 1\nP 1 3 7\nS 1\nP 1 3 7\nR 1 3\n",
+        b"1 ok 1\n2 ok 161 1\n3 ok 170 2\n4 ok 180 3\n5 ok 190 4\n6 ok 200 4\n7 ok 210 5\n8 ok 221 6\n9 ok r 7\n10 no 26\n11 ok 272 8\n12 ok 273 9\n13 ok 274 9\n14 ok 275 10\n15 ok w 11\n16 ok w 11\n17 ok w 11 4200\n18 ok 282 12\n19 no 24\n20 ok r 13\n21 no 26\n22 ok r 13 4200\n"
+    )
+}
+
 #[test]
 fn tasks_on_a_packed_memory(rt: HostRuntime) -> Result<(), Fail> {
     lists(

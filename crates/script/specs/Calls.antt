@@ -11,7 +11,7 @@ use Rattle.script.specs.declared.call.Line.TheVariants as lines
 use Rattle.script.specs.declared.refusal.Refusal.{Refusal}
 use Rattle.script.specs.declared.refusal.Refusal.TheVariants as why
 use Rattle.script.specs.Cuts.{fields}
-use Rattle.script.specs.Numbers.{one, two}
+use Rattle.script.specs.Numbers.{one, two, three}
 
 -- a call, with the roles as bytes
 pub data Ask : Type 0 where
@@ -22,6 +22,7 @@ pub data Ask : Type 0 where
   downgrade : ℕ → Ask
   leave : ℕ → Ask
   read : (task row : ℕ) → Ask
+  put : (task row thickness : ℕ) → Ask
 
 pub data Said : Type 0 where
   blank : Said
@@ -58,12 +59,12 @@ opened (m ∷ q ∷ []) = Err why.Fields
 opened (m ∷ q ∷ roles ∷ []) = opens (memory_kind m) (queue_kind q) roles
 opened (m ∷ q ∷ roles ∷ f ∷ fs) = Err why.Fields
 
--- the call that the letter names, with its fields: O, E, S, U, D, L or R
+-- the call that the letter names, with its fields: O, E, S, U, D, L, R or P
 abbrev pub called : ℕ → List (List ℕ) → Result Ask Refusal
 called c fs =
     cond (c == 79) (opened fs) (cond (c == 69) (over begin (one fs)) (cond (c == 83) (over advance (one fs)) (
     cond (c == 85) (over upgrade (one fs)) (cond (c == 68) (over downgrade (one fs)) (cond (c == 76) (over leave (one fs)) (
-    cond (c == 82) (over (λ x. read x.0 x.1) (two fs)) (Err why.Letter)))))))
+    cond (c == 82) (over (λ x. read x.0 x.1) (two fs)) (cond (c == 80) (over (λ x. put x.0 x.1 x.2) (three fs)) (Err why.Letter))))))))
 
 -- the fields after the letter, if a space follows it
 abbrev pub arguments : List ℕ → List (List ℕ)
@@ -82,6 +83,7 @@ ask (calls.Upgrade t) = upgrade t
 ask (calls.Downgrade t) = downgrade t
 ask (calls.Leave t) = leave t
 ask (calls.Read t row) = read t row
+ask (calls.Put t row thickness) = put t row thickness
 
 abbrev pub said : Line → Said
 said lines.Blank = blank

@@ -39,3 +39,18 @@ two [] = Err why.Fields
 two (a ∷ []) = Err why.Fields
 two (a ∷ b ∷ []) = cond (numeral a && numeral b) (pair (bounded a) (bounded b)) (Err why.Fields)
 two (a ∷ b ∷ c ∷ fs) = Err why.Fields
+
+-- all three numbers, unless one is too large
+abbrev pub triple : Result ℕ Refusal → Result ℕ Refusal → Result ℕ Refusal → Result (ℕ × ℕ × ℕ) Refusal
+triple (Ok l) (Ok m) (Ok n) = Ok (l, m, n)
+triple (Ok l) (Ok m) (Err e) = Err e
+triple (Ok l) (Err e) n = Err e
+triple (Err e) m n = Err e
+
+-- the fields are three numbers and nothing else
+abbrev pub three : List (List ℕ) → Result (ℕ × ℕ × ℕ) Refusal
+three [] = Err why.Fields
+three (a ∷ []) = Err why.Fields
+three (a ∷ b ∷ []) = Err why.Fields
+three (a ∷ b ∷ c ∷ []) = cond (numeral a && (numeral b && numeral c)) (triple (bounded a) (bounded b) (bounded c)) (Err why.Fields)
+three (a ∷ b ∷ c ∷ d ∷ fs) = Err why.Fields

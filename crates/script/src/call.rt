@@ -57,6 +57,8 @@ pub enum Call<'a> {
     Leave(u32),
     // a task and a row
     Read(u32, u32),
+    // a task, a row and a thickness
+    Put(u32, u32, u32),
 }
 
 #[derive(Clone, Copy, PartialEq, Eq, Debug)]

@@ -2,7 +2,7 @@
 // line before the size of any number, so the two questions are functions of their own.
 ghost use Rattle.std.specs.Prelude.{◌≡◌};
 ghost use Rattle.script.specs.Fields.{left};
-ghost use Rattle.script.specs.Numbers.{numeral, bounded, one, two};
+ghost use Rattle.script.specs.Numbers.{numeral, bounded, one, three, two};
 
 use crate::fields::Fields;
 use crate::refusal::Refusal;
@@ -57,4 +57,18 @@ pub(crate) fn two_numbers(mut fields: Fields) -> Result<(u32, u32), Refusal>
         return Err(Refusal::Fields);
     }
     Ok((value_of(a)?, value_of(b)?))
+}
+
+// Three numbers and nothing else.
+pub(crate) fn three_numbers(mut fields: Fields) -> Result<(u32, u32, u32), Refusal>
+    ensures { result ≡ three (left fields.entry) }
+{
+    let a = fields.next()?;
+    let b = fields.next()?;
+    let c = fields.next()?;
+    fields.end()?;
+    if !(is_numeral(a) && is_numeral(b) && is_numeral(c)) {
+        return Err(Refusal::Fields);
+    }
+    Ok((value_of(a)?, value_of(b)?, value_of(c)?))
 }

@@ -6,7 +6,7 @@ ghost use Rattle.script.specs.Fields.{left};
 
 use crate::call::{Call, Line, MemoryKind, QueueKind};
 use crate::fields::Fields;
-use crate::numbers::{one_number, two_numbers};
+use crate::numbers::{one_number, three_numbers, two_numbers};
 use crate::refusal::Refusal;
 
 // A memory, a queue and roles, and nothing else.
@@ -38,6 +38,10 @@ fn call_of<'a>(letter: char, fields: Fields<'a>) -> Result<Call<'a>, Refusal>
         'R' => {
             let (task, row) = two_numbers(fields)?;
             Ok(Call::Read(task, row))
+        }
+        'P' => {
+            let (task, row, thickness) = three_numbers(fields)?;
+            Ok(Call::Put(task, row, thickness))
         }
         _ => Err(Refusal::Letter),
     }

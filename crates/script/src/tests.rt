@@ -24,7 +24,7 @@ fn all_refused(rt: &impl Abort, lines: &[&[u8]], number: u32) {
 fn letters(rt: HostRuntime) {
     all_refused(
         &rt,
-        &[b"e 1", b" ", b"   ", b"\r", b" E 1", b"u 1", b"P 1 2 3"],
+        &[b"e 1", b" ", b"   ", b"\r", b" E 1", b"u 1", b"p 1 2 3"],
         40,
     );
 }
@@ -85,6 +85,43 @@ fn numerals(rt: HostRuntime) {
 }
 
 #[test]
+fn three_numerals(rt: HostRuntime) {
+    all_refused(
+        &rt,
+        &[
+            b"P",
+            b"P 1",
+            b"P 1 2",
+            b"P 1 2 ",
+            b"P1 2 3",
+            b"P 1 2  3",
+            b"P 1 2 3 4",
+        ],
+        41,
+    );
+    all_refused(
+        &rt,
+        &[
+            b"P 01 2 3",
+            b"P 1 00 3",
+            b"P 1 2 x",
+            b"P 99999999999 99999999999 03",
+            b"P 1 99999999999 +3",
+        ],
+        41,
+    );
+    all_refused(
+        &rt,
+        &[
+            b"P 4294967296 2 3",
+            b"P 1 4294967296 3",
+            b"P 1 2 4294967296",
+        ],
+        42,
+    );
+}
+
+#[test]
 fn accepted(rt: HostRuntime) {
     assert_eq!(rt; parse_line(b""), Ok(Line::Blank));
     assert_eq!(rt; parse_line(b"#"), Ok(Line::Note(b"#")));
@@ -98,6 +135,14 @@ fn accepted(rt: HostRuntime) {
     assert_eq!(rt; parse_line(b"D 2"), Ok(Line::Call(Call::Downgrade(2))));
     assert_eq!(rt; parse_line(b"L 3"), Ok(Line::Call(Call::Leave(3))));
     assert_eq!(rt; parse_line(b"R 4 15"), Ok(Line::Call(Call::Read(4, 15))));
+    assert_eq!(rt;
+        parse_line(b"P 1 3 4200"),
+        Ok(Line::Call(Call::Put(1, 3, 4200)))
+    );
+    assert_eq!(rt;
+        parse_line(b"P 0 4294967295 4294967295"),
+        Ok(Line::Call(Call::Put(0, 4294967295, 4294967295)))
+    );
     let opened = Call::Open(MemoryKind::Words, QueueKind::Ring, b"x\r#");
     assert_eq!(rt; parse_line(b"O w r x\r#"), Ok(Line::Call(opened)));
 }

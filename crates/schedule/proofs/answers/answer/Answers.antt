@@ -10,3 +10,6 @@ returns-in_ok-advance-in-Advance g c =
 
 pub returns-in-Read : goal.returns-in-Read
 returns-in-Read g c = rw c.in-Read.is c.read.ensures
+
+pub returns-in-Put : goal.returns-in-Put
+returns-in-Put g c = rw c.in-Put.is c.put.ensures
