@@ -1,5 +1,6 @@
-// What a call of a schedule answers, over any lock.
+// What a call of a schedule answers, over any lock whose memory is the cache layer.
 ghost use Rattle.std.specs.Prelude.{◌≡◌};
+ghost use Rattle.cache.specs.Layers.{cached};
 ghost use Rattle.calls.specs.Questions.{task_refusal};
 ghost use Rattle.calls.specs.Told.{told};
 ghost use Rattle.lock.specs.View.{view};
@@ -7,6 +8,7 @@ ghost use Rattle.script.specs.Calls.{ask};
 ghost use Rattle.schedule.specs.Answers.{OpensTo, Tells, place_shown, row_shown, task_shown};
 
 use crate::passes::{downgrade, leave, put, read, upgrade};
+use cache::layer::Cache;
 use calls::refusal::Refusal;
 use lines::place::{Place, Right};
 use listing::answer::{Answer, Place as Shown};
@@ -55,19 +57,22 @@ pub(crate) fn row_told<M: Memory, Q: Queue>(
 }
 
 // Open, and how many tasks there then are.
-fn open<M: Memory, Q: Queue>(lock: &mut Lock<'_, M, Q>, roles: &[u8]) -> Result<Answer, Refusal>
-    ensures { OpensTo M.Memory Q.Queue roles.now lock.old result lock.new }
+fn open<B: Memory, Q: Queue>(
+    lock: &mut Lock<'_, Cache<B>, Q>,
+    roles: &[u8],
+) -> Result<Answer, Refusal>
+    ensures { OpensTo (cached B.Memory) Q.Queue roles.now lock.old result lock.new }
 {
-    lock.open(roles)?;
+    lock.open_cached(roles)?;
     Ok(Answer::Opened(roles.len() as u32))
 }
 
 // What the call answers, made to this lock.
-pub(crate) fn answer<M: Memory, Q: Queue>(
-    lock: &mut Lock<'_, M, Q>,
+pub(crate) fn answer<B: Memory, Q: Queue>(
+    lock: &mut Lock<'_, Cache<B>, Q>,
     call: Call<'_>,
 ) -> Result<Answer, Refusal>
-    ensures { Tells M.Memory Q.Queue lock.old (ask call.entry) result lock.new }
+    ensures { Tells (cached B.Memory) Q.Queue lock.old (ask call.entry) result lock.new }
 {
     match call {
         Call::Open(_, _, roles) => open(lock, roles),
