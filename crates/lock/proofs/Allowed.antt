@@ -1,5 +1,5 @@
 -- No line that is due is refused by the memory or the queue, where the limit is at least 2 and at least the number of tasks.
-use Rattle.std.proofs.Common.{◌≡◌, ℕ, suc, ◌+◌, ◌-◌, ◌<◌, ◌≤◌, true, false, eqb, leb, ltb, ◌≢◌, List, [], ◌∷◌, length, get_or, None, Option, sym, refl, ap, ◌∙◌, subst, arith}
+use Rattle.std.proofs.Common.{◌≡◌, ℕ, suc, ◌+◌, ◌-◌, ◌<◌, ◌≤◌, true, false, eqb, ltb, ◌≢◌, List, [], ◌∷◌, length, get_or, None, sym, refl, subst, arith}
 use Rattle.std.specs.List.{AllByRecursion as All}
 use Rattle.std.proofs.ByRecursion.{All-weaker}
 use Rattle.std.proofs.lemmas.Bool.{eq-eqb, le-leb, lt-ltb, ne_eqb, or_from}
@@ -15,7 +15,7 @@ use Rattle.calls.specs.declared.record.Record.{Record}
 use Rattle.calls.specs.States.{State, record_of}
 use Rattle.calls.specs.Steps.{deed_refusal}
 use Rattle.lock.proofs.Facts.{Before, OneTask, seen, seen_cells}
-use Rattle.lock.proofs.Holds.{Holds, Waits, at, rests_apart, room, tick_counted}
+use Rattle.lock.proofs.Holds.{Waits, at, rests_apart, room, tick_counted}
 use Rattle.lock.proofs.Judged.{Due, Lawful}
 
 waits_not : (ws : List ℕ) (t : ℕ) → All (λ z. z ≢ t) ws → waits ws t ≡ false

@@ -1,5 +1,5 @@
 -- Each call has an answer over a memory that does what it does not refuse.
-use Rattle.std.proofs.Common.{◌≡◌, ℕ, List, Some, None, Option, sym, refl, ap, ◌∙◌, subst, arith}
+use Rattle.std.proofs.Common.{◌≡◌, ℕ, Some, None, Option, refl, subst, arith}
 use Rattle.memory.specs.declared.interface.Memory.{Ghosts}
 use Rattle.memory.specs.declared.refusal.Refusal.{Refusal as MemoryRefusal}
 use Rattle.memory.specs.Operations.{after, refusal}
@@ -9,7 +9,7 @@ use Rattle.lines.specs.Lines.{next_deed}
 use Rattle.calls.specs.declared.record.Record.{Record}
 use Rattle.calls.specs.declared.refusal.Refusal.{Refusal}
 use Rattle.calls.specs.States.{State}
-use Rattle.calls.specs.Steps.{Answer, Carried, LineShares, Shares, Verdict, after_deed, at_once, by_memory, deed_refusal, done, judge, line, lined, no, refuse}
+use Rattle.calls.specs.Steps.{Answer, Carried, Shares, Verdict, after_deed, at_once, by_memory, deed_refusal, done, judge, line, no, refuse}
 use Rattle.lock.specs.Answering.{EachAnswers, Total, numbers_alone}
 
 module _ {M : Type 0} (mem : Ghosts M) (total : Total mem) where

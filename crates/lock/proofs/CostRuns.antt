@@ -1,5 +1,5 @@
 -- The cost bound: each task's account is backed by units, of which a place allows no more than Costs says.
-use Rattle.std.proofs.Common.{◌≡◌, ℕ, zero, suc, ◌+◌, ◌-◌, ◌*◌, ◌<◌, ◌≤◌, Bool, true, false, cond, eqb, ◌≢◌, List, [], ◌∷◌, length, get_or, set, min, IfOk, Some, None, Ok, Err, Option, Result, sym, refl, ap, ◌∙◌, subst, inl, inr, arith}
+use Rattle.std.proofs.Common.{◌≡◌, ℕ, zero, suc, ◌+◌, ◌-◌, ◌*◌, ◌<◌, ◌≤◌, cond, eqb, ◌≢◌, List, [], ◌∷◌, length, get_or, set, IfOk, Some, None, Option, Result, sym, refl, ap, ◌∙◌, subst, inl, inr, arith}
 use Rattle.std.proofs.lemmas.Bool.{cases_eq, eq-eqb, ne_eqb}
 use Rattle.std.proofs.lemmas.List.{get_or-set_same, get_or-set_other}
 use Rattle.memory.specs.declared.operation.Operation.{Operation}
@@ -12,26 +12,26 @@ use Rattle.lines.specs.declared.place.Line.TheVariants.{L0p1, L16, L25p1, L27p1,
 use Rattle.lines.specs.declared.place.Place.{Place}
 use Rattle.lines.specs.declared.place.Place.TheVariants.{Rest, Inside, Next}
 use Rattle.lines.specs.declared.place.Role.{Role}
-use Rattle.lines.specs.declared.place.Role.TheVariants.{Reader, Writer}
+use Rattle.lines.specs.declared.place.Role.TheVariants.{Reader}
 use Rattle.lines.specs.declared.track.Track.{Track}
 use Rattle.lines.specs.Deeds.{cells_after, finds, waiting_after}
 use Rattle.lines.specs.Lines.{at_rest, deed_of, next_deed, settle}
 use Rattle.calls.specs.declared.account.Account.{Account}
 use Rattle.calls.specs.declared.record.Record.{Record}
 use Rattle.calls.specs.declared.refusal.Refusal.{Refusal}
-use Rattle.calls.specs.Accounts.{charged, unpaid}
+use Rattle.calls.specs.Accounts.{charged}
 use Rattle.calls.specs.Opening.{Opens, Wrote, open_refusal, opening_writes}
 use Rattle.calls.specs.Records.{arrived, fresh, settled}
 use Rattle.calls.specs.States.{State, record_of}
-use Rattle.calls.specs.Steps.{Answer, Call, Calls, Carried, LineShares, Verdict, VerdictShares, after_deed, at_once, deed_refusal, judge, line, lined, refuse}
+use Rattle.calls.specs.Steps.{Answer, Call, Calls, Carried, LineShares, Verdict, after_deed, at_once, judge, line, lined, refuse}
 use Rattle.lock.specs.Promises.{CostBound, Starts}
-use Rattle.lock.specs.Runs.{Made, Run, RunWhile}
+use Rattle.lock.specs.Runs.{Made, RunWhile}
 use Rattle.lock.proofs.Allowed.{allowed}
 use Rattle.lock.specs.Counted.{masks_after, unit_share}
 use Rattle.lock.proofs.Copies.{ChargedByUnits, deed_charged, flag, length-masks_after, purse_other, purse_own, touches_known, unit_share-charge}
 use Rattle.lock.proofs.Costs.{Paid, Units, account_before, at_most_20, charge, other_copies, others_kept, own_copies, payer_kept, purse}
 use Rattle.lock.proofs.Costs.{charged as charged_units}
-use Rattle.lock.proofs.Facts.{Before, Cells, OneTask, Task, seen, seen_cells, writer}
+use Rattle.lock.proofs.Facts.{Before, Cells, Task, seen, seen_cells}
 use Rattle.lock.proofs.Holds.{Holds, at, line_moves, met, seen_at}
 use Rattle.lock.proofs.Judged.{Due, Lawful, account_of_call}
 use Rattle.lock.proofs.Meant.{Meant, Quiet, meant}

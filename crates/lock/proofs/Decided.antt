@@ -1,5 +1,5 @@
 -- But for costs, a run makes of the state what the calls alone make of it.
-use Rattle.std.proofs.Common.{◌≡◌, ℕ, zero, suc, ◌+◌, ◌-◌, ◌≤◌, Bool, true, false, cond, eqb, leb, ltb, List, [], ◌∷◌, length, get_or, set, map, min, Some, None, Option, sym, refl, ap, ◌∙◌, subst, arith}
+use Rattle.std.proofs.Common.{◌≡◌, ℕ, zero, suc, ◌-◌, List, [], ◌∷◌, length, get_or, set, map, Some, None, Option, sym, refl, ap, ◌∙◌}
 use Rattle.memory.specs.Calls.{Doing}
 use Rattle.lines.specs.declared.deed.Deed.{Deed}
 use Rattle.lines.specs.declared.deed.Found.{Found}
@@ -15,13 +15,13 @@ use Rattle.calls.specs.declared.account.Account.{Account}
 use Rattle.calls.specs.declared.record.Record.{Record}
 use Rattle.calls.specs.declared.refusal.Refusal.{Refusal}
 use Rattle.calls.specs.Accounts.{charged}
-use Rattle.calls.specs.Questions.{advance_refusal, begin_refusal, is_out, pass_refusal, row_refusal, take_refusal, task_refusal, thickness_refusal, upgrade_refusal}
+use Rattle.calls.specs.Questions.{advance_refusal, begin_refusal, pass_refusal, row_refusal, take_refusal, task_refusal, thickness_refusal, upgrade_refusal}
 use Rattle.calls.specs.Records.{arrived, begun, downgrading, fresh, leaving, settled, upgrading, with_out}
 use Rattle.calls.specs.States.{State, record_of, with_record, with_row}
-use Rattle.calls.specs.Steps.{Answer, Call, Calls, Verdict, advance, after_deed, asked, at_once, begin, done, downgrade, hands, judge, lay_back, leave, line, no, put, read, refuse, row_answer, take, upgrade}
+use Rattle.calls.specs.Steps.{Answer, Call, Verdict, advance, after_deed, asked, at_once, begin, done, downgrade, hands, judge, lay_back, leave, line, put, read, refuse, row_answer, take, upgrade}
 use Rattle.lock.specs.Model.{model_run, model_step, modelled, unpaid, unpaid_record}
 use Rattle.lock.specs.Promises.{Obeyed}
-use Rattle.lock.specs.Runs.{Made, Run, RunWhile}
+use Rattle.lock.specs.Runs.{Made, RunWhile}
 use Rattle.lock.proofs.Runs.{Able, call_able, call_kept}
 
 -- the verdict on the state without costs

@@ -1,5 +1,5 @@
 -- Where each operation below the cache layer costs 1, runs cost what the counted calls say.
-use Rattle.std.proofs.Common.{◌≡◌, ℕ, List, [], ◌∷◌, map, IfOk, Some, None, Ok, Err, Option, Result, sym, refl, ap, ◌∙◌, subst}
+use Rattle.std.proofs.Common.{◌≡◌, ℕ, List, [], ◌∷◌, map, IfOk, Some, None, Option, Result, sym, ap, ◌∙◌, subst}
 use Rattle.memory.specs.declared.operation.Operation.{Operation}
 use Rattle.memory.specs.Calls.{Doing}
 use Rattle.lines.specs.declared.deed.Deed.TheVariants.{Touch}
@@ -7,8 +7,8 @@ use Rattle.lines.specs.Lines.{next_deed}
 use Rattle.calls.specs.declared.refusal.Refusal.{Refusal}
 use Rattle.calls.specs.Opening.{Opens, open_refusal}
 use Rattle.calls.specs.States.{State}
-use Rattle.calls.specs.Steps.{Answer, Carried, LineShares, Verdict, after_deed, at_once, deed_refusal, judge, line, lined, refuse}
-use Rattle.lock.specs.Counted.{Counted, counted, counted_run, masks_after, unit_share}
+use Rattle.calls.specs.Steps.{Answer, Carried, LineShares, Verdict, after_deed, at_once, judge, line, lined, refuse}
+use Rattle.lock.specs.Counted.{Counted, counted, counted_run, unit_share}
 use Rattle.lock.specs.Promises.{ExactCosts}
 use Rattle.lock.specs.Runs.{Made, RunWhile}
 use Rattle.lock.proofs.Allowed.{allowed}
@@ -40,6 +40,6 @@ module _ {M : Type 0} (does : Doing M) (masks : M → List ℕ) (law : (m n : M)
   pub opened_exact : (ceiling : ℕ) (o : Option Refusal) (s z : State) (m n : M) (roles : List ℕ) (r : Result (Unit {0}) Refusal) → open_refusal limit ceiling s roles ≡ o → Opens does o s m roles r z n → IfOk r (λ _. ExactCosts does limit z n masks)
   opened_exact ceiling None s z m n roles r none (ok, w, is) =
       subst (λ x. IfOk x (λ _. ExactCosts does limit z n masks)) (sym ok) (λ es y p run.
-        let e = run_exact _ es z y n p (able limit ceiling s z roles none is) run in
-        (ap (λ (x : Counted). x.state) e, ap (λ (x : Counted). x.masks) e))
+      let e = run_exact _ es z y n p (able limit ceiling s z roles none is) run in
+      (ap (λ (x : Counted). x.state) e, ap (λ (x : Counted). x.masks) e))
   opened_exact ceiling (Some e) s z m n roles r none (err, same, k) = subst (λ x. IfOk x (λ _. ExactCosts does limit z n masks)) (sym err) tt

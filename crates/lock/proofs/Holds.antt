@@ -1,5 +1,5 @@
 -- The facts hold of a whole lock: of its cells, its queue and all its tasks; and a line of one task keeps them.
-use Rattle.std.proofs.Common.{◌≡◌, ℕ, suc, pred, ◌+◌, ◌<◌, ◌≤◌, cond, ◌≢◌, List, [], ◌∷◌, ◌++◌, length, get_or, set, sum_by, count_by, refl, sym, ap, ◌∙◌, subst, inl, inr, arith}
+use Rattle.std.proofs.Common.{◌≡◌, ℕ, suc, pred, ◌+◌, ◌<◌, ◌≤◌, cond, ◌≢◌, List, [], ◌∷◌, ◌++◌, length, get_or, set, sum_by, refl, sym, ap, ◌∙◌, subst, inl, inr, arith}
 use Rattle.std.specs.List.{AllByRecursion as All}
 use Rattle.std.proofs.lemmas.List.{get_or-set_same, get_or-set_other, get_or_past, length-set}
 use Rattle.std.proofs.lemmas.List.Sums.{sum_by-set, get_or-le-sum_by, sum_by-cons, count_by-le-length}
@@ -12,7 +12,6 @@ use Rattle.lines.specs.declared.deed.Deed.{Deed}
 use Rattle.lines.specs.declared.deed.Deed.TheVariants.{Touch, Join, First, Quit, Nothing}
 use Rattle.lines.specs.declared.place.Line.{Line}
 use Rattle.lines.specs.declared.place.Place.{Place}
-use Rattle.lines.specs.declared.place.Place.TheVariants.{Inside}
 use Rattle.lines.specs.declared.place.Role.{Role}
 use Rattle.lines.specs.declared.place.Role.TheVariants.{Reader}
 use Rattle.lines.specs.declared.place.Standing.{Standing}

@@ -1,9 +1,9 @@
 -- What the questions of a call come to on a lock whose facts hold: its own refusal, a line that is the task's next one, or an answer.
-use Rattle.std.proofs.Common.{◌≡◌, ℕ, ◌-◌, ◌<◌, ◌≤◌, Bool, true, false, eqb, leb, List, length, Some, None, Option, sym, refl, ap, ◌∙◌, subst, arith}
+use Rattle.std.proofs.Common.{◌≡◌, ℕ, ◌-◌, ◌≤◌, true, eqb, length, Some, None, Option, refl, arith}
 use Rattle.std.proofs.lemmas.Bool.{and_parts, leb-true}
 use Rattle.lines.specs.declared.deed.Found.{Found}
 use Rattle.lines.specs.declared.place.Line.{Line}
-use Rattle.lines.specs.declared.place.Line.TheVariants.{L0p1, L7, L16, L23, L25p1, L26p1, L27p1, Down28p1, L28p1}
+use Rattle.lines.specs.declared.place.Line.TheVariants.{L0p1, L16, L25p1, L27p1, Down28p1}
 use Rattle.lines.specs.declared.place.Place.{Place}
 use Rattle.lines.specs.declared.place.Place.TheVariants.{Rest, Inside, Next}
 use Rattle.lines.specs.declared.place.Right.{Right}
@@ -17,12 +17,11 @@ use Rattle.lines.specs.Lines.{deed_of, goes, next_deed, settle, stepped}
 use Rattle.lines.specs.Rights.{right_at, right_of}
 use Rattle.lines.specs.Starts.{begin_line, downgrade_line, leave_line, upgrade_line}
 use Rattle.calls.specs.declared.account.Account.{Account}
-use Rattle.calls.specs.declared.refusal.Refusal.{Refusal}
 use Rattle.calls.specs.declared.refusal.Refusal.TheVariants.{NoPass, OtherLock, Shut}
 use Rattle.calls.specs.declared.record.Record.{Record}
 use Rattle.calls.specs.Accounts.{one_more_downgrade, one_more_upgrade, restarted}
 use Rattle.calls.specs.Records.{begun, downgrading, in_order, leaving, upgrading}
-use Rattle.calls.specs.Questions.{advance_refusal, advance_refusal_at, ask, begin_refusal, begin_refusal_at, is_out, out_for, pass_refusal, task_refusal, upgrade_refusal}
+use Rattle.calls.specs.Questions.{advance_refusal, advance_refusal_at, begin_refusal, begin_refusal_at, is_out, out_for, pass_refusal, task_refusal, upgrade_refusal}
 use Rattle.calls.specs.States.{State, record_of}
 use Rattle.calls.proofs.Obeyed.{is_task, yes}
 use Rattle.calls.proofs.Sound.{begun_in_order, downgrading_in_order, has_out, leaving_in_order, parts, upgrading_in_order}

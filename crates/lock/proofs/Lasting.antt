@@ -1,25 +1,21 @@
 -- The facts last: each call keeps them, whatever its arguments.
-use Rattle.std.proofs.Common.{◌≡◌, ℕ, zero, suc, pred, ◌+◌, ◌-◌, ◌<◌, ◌≤◌, Bool, true, false, cond, eqb, ltb, leb, ◌≢◌, List, [], ◌∷◌, length, get_or, set, count_by, Some, None, Option, sym, refl, ap, ◌∙◌, subst, inl, inr, arith, lit≤}
-use Rattle.std.specs.List.{AllByRecursion as All}
+use Rattle.std.proofs.Common.{◌≡◌, ℕ, zero, suc, pred, ◌-◌, ◌<◌, Bool, true, cond, List, [], ◌∷◌, length, get_or, set, Option, sym, refl, ap, ◌∙◌, subst, arith}
 use Rattle.std.proofs.ByRecursion.{All-weaker}
-use Rattle.std.proofs.lemmas.Bool.{cases_eq, cases_lt}
-use Rattle.std.proofs.lemmas.List.{get_or-set_same, get_or-set_other, get_or_past, length-set}
+use Rattle.std.proofs.lemmas.List.{length-set}
 use Rattle.std.proofs.lemmas.List.Sums.{sum_by-cons}
-use Rattle.memory.specs.Calls.{Doing}
 use Rattle.lines.specs.declared.place.Line.{Line}
 use Rattle.lines.specs.declared.place.Right.{Right}
-use Rattle.lines.specs.declared.place.Role.TheVariants.{Reader}
 use Rattle.lines.specs.declared.track.Track.{Track}
 use Rattle.lines.specs.Classes.{has_upgraded, is_counted}
 use Rattle.lines.specs.Deeds.{cells_after, finds, waiting_after}
 use Rattle.lines.specs.Lines.{deed_of, next_deed, settle}
 use Rattle.calls.specs.declared.record.Record.{Record}
 use Rattle.calls.specs.Census.{tasks_that}
-use Rattle.calls.specs.Records.{fresh, in_order, settled, with_out}
+use Rattle.calls.specs.Records.{in_order, settled, with_out}
 use Rattle.calls.specs.States.{State, record_of, with_record}
 use Rattle.calls.specs.Steps.{after_deed}
 use Rattle.calls.proofs.Sound.{settled_in_order}
-use Rattle.lock.proofs.Facts.{Before, OneTask, TwoTasks, seen, seen_cells}
+use Rattle.lock.proofs.Facts.{Before, OneTask, seen, seen_cells}
 use Rattle.lock.proofs.Holds.{Holds, Waits, at, line_keeps, seen_at}
 use Rattle.lock.proofs.Judged.{Due, Lawful}
 use Rattle.lock.proofs.Opened.{seven_of}

@@ -1,15 +1,12 @@
 -- A lock just opened keeps every promise.
-use Rattle.std.proofs.Common.{◌≡◌, ℕ, zero, suc, ◌≤◌, Bool, true, not, eqb, leb, List, [], ◌∷◌, length, get_or, map, None, Option, sym, refl, ap, ◌∙◌, subst, arith}
-use Rattle.std.specs.List.{AllByRecursion as All}
+use Rattle.std.proofs.Common.{◌≡◌, ℕ, zero, suc, ◌≤◌, true, not, eqb, leb, List, [], ◌∷◌, length, get_or, map, None, sym, refl, ap, ◌∙◌, subst, arith}
 use Rattle.std.proofs.lemmas.Bool.{eqb-true, leb-true}
 use Rattle.memory.specs.Calls.{Doing}
-use Rattle.lines.specs.declared.place.Right.TheVariants.{Reading}
 use Rattle.lines.specs.declared.place.Role.{Role}
 use Rattle.lines.specs.declared.place.Role.TheVariants.{Reader, Writer}
 use Rattle.lines.specs.Classes.{has_upgraded, is_counted}
 use Rattle.lines.specs.Lines.{at_rest}
 use Rattle.lines.specs.Roles.{role_of}
-use Rattle.calls.specs.declared.record.Record.{Record}
 use Rattle.calls.specs.declared.refusal.Refusal.TheVariants.{Ceiling, Limit, Opened, Queued, Role as NotRole, Roles}
 use Rattle.calls.specs.Census.{tasks_that}
 use Rattle.calls.specs.Opening.{are_roles, enlisted, open_refusal, opened_to, opening_cells}
@@ -20,13 +17,12 @@ use Rattle.calls.proofs.Obeyed.{yes}
 use Rattle.calls.proofs.Sound.{fresh_in_order}
 use Rattle.lock.specs.Model.{model_run, unpaid, unpaid_record}
 use Rattle.lock.specs.Promises.{Promised, Starts}
-use Rattle.lock.specs.Runs.{Run}
 use Rattle.lock.proofs.Decided.{decided}
 use Rattle.lock.proofs.Facts.{OneTask, TwoTasks, seen, seen_cells}
 use Rattle.lock.proofs.Holds.{Holds, at}
 use Rattle.lock.proofs.Judged.{Lawful, pass_there}
 use Rattle.lock.proofs.RowRuns.{read_told, run_row, table_still}
-use Rattle.lock.proofs.Runs.{Able, call_able, call_kept, excluded, run_able}
+use Rattle.lock.proofs.Runs.{Able, call_kept, excluded, run_able}
 use Rattle.lock.proofs.SoundRuns.{unbroken}
 
 module _ {M : Type 0} (does : Doing M) (limit : ℕ) (s : State) (m : M) (roles : List ℕ) where

@@ -1,16 +1,15 @@
 -- What runs leave in the rows: a row holds the number last put into it, and stands still while a task keeps its reading right.
-use Rattle.std.proofs.Common.{◌≡◌, ℕ, ◌-◌, ◌<◌, ◌≤◌, Bool, true, false, cond, eqb, ltb, ◌≢◌, List, [], ◌∷◌, length, get_or, set, Some, None, Option, sym, refl, ap, ◌∙◌, subst, inl, inr, arith}
+use Rattle.std.proofs.Common.{◌≡◌, ℕ, ◌<◌, ◌≤◌, true, ltb, List, [], ◌∷◌, length, get_or, set, Some, None, Option, sym, refl, ap, ◌∙◌, subst, inl, inr, arith}
 use Rattle.std.proofs.lemmas.Bool.{cases_eq, eq-eqb, false≢true, ltb-true, ne_eqb}
 use Rattle.std.proofs.lemmas.List.{get_or-set_same, get_or-set_other}
 use Rattle.memory.specs.Calls.{Doing}
 use Rattle.lines.specs.declared.deed.Deed.{Deed}
 use Rattle.lines.specs.declared.place.Place.{Place}
-use Rattle.lines.specs.declared.place.Place.TheVariants.{Rest, Inside, Next}
 use Rattle.lines.specs.declared.place.Right.{Right}
 use Rattle.lines.specs.declared.place.Right.TheVariants.{Reading, Writing}
 use Rattle.lines.specs.declared.place.Role.{Role}
 use Rattle.lines.specs.declared.place.Standing.{Standing}
-use Rattle.lines.specs.Classes.{in_section, section_at}
+use Rattle.lines.specs.Classes.{section_at}
 use Rattle.lines.specs.Lines.{next_deed}
 use Rattle.lines.specs.Rights.{right_at, right_of}
 use Rattle.calls.specs.declared.record.Record.{Record}
@@ -19,12 +18,12 @@ use Rattle.calls.specs.declared.refusal.Refusal.TheVariants.{NoRow}
 use Rattle.calls.specs.Questions.{advance_refusal, begin_refusal, pass_refusal, row_refusal, take_refusal, task_refusal, thickness_refusal, upgrade_refusal}
 use Rattle.calls.specs.Records.{begun, downgrading, leaving, upgrading, with_out}
 use Rattle.calls.specs.States.{State, record_of, with_record, with_row}
-use Rattle.calls.specs.Steps.{Answer, Call, Calls, Carried, Verdict, advance, asked, at_once, begin, deed_refusal, done, downgrade, gives, hands, judge, lay_back, leave, line, lined, no, put, read, refuse, row_answer, take, upgrade}
+use Rattle.calls.specs.Steps.{Answer, Call, Calls, Carried, Verdict, advance, asked, at_once, begin, deed_refusal, done, downgrade, hands, judge, lay_back, leave, line, lined, no, put, read, refuse, row_answer, take, upgrade}
 use Rattle.calls.proofs.Obeyed.{yes}
 use Rattle.lock.specs.Promises.{HasRight, MayRead}
 use Rattle.lock.specs.Rows.{last_put, left_in}
-use Rattle.lock.specs.Runs.{Made, Run, RunWhile}
-use Rattle.lock.proofs.Judged.{Holding, Lawful, pass_there}
+use Rattle.lock.specs.Runs.{Made, RunWhile}
+use Rattle.lock.proofs.Judged.{Lawful, pass_there}
 use Rattle.lock.proofs.Runs.{Able, call_able, excluded}
 
 -- What a verdict may do to a row that holds v, in a call c.

@@ -1,33 +1,18 @@
 -- After any run from an opened lock the facts hold: exclusion, obedience and soundness.
-use Rattle.std.proofs.Common.{◌≡◌, ℕ, ◌+◌, ◌-◌, ◌<◌, ◌≤◌, Bool, true, false, cond, ◌≢◌, List, [], ◌∷◌, length, get_or, Some, None, Ok, Option, sym, refl, ap, ◌∙◌, subst, inl, inr, arith}
-use Rattle.std.proofs.lemmas.Bool.{cases_eq, cases_lt, eqb-true, le-leb}
+use Rattle.std.proofs.Common.{◌≡◌, ℕ, ◌-◌, ◌≤◌, Bool, true, false, cond, ◌≢◌, List, [], ◌∷◌, length, sym, refl, ap, subst, arith}
 use Rattle.memory.specs.Calls.{Doing}
-use Rattle.lines.specs.declared.place.Place.{Place}
-use Rattle.lines.specs.declared.place.Place.TheVariants.{Rest, Inside, Next}
-use Rattle.lines.specs.declared.place.Right.TheVariants.{Reading, Writing}
-use Rattle.lines.specs.declared.place.Role.{Role}
-use Rattle.lines.specs.declared.place.Role.TheVariants.{Reader}
-use Rattle.lines.specs.declared.place.Standing.{Standing}
-use Rattle.lines.specs.declared.track.Track.{Track}
+use Rattle.lines.specs.declared.place.Right.TheVariants.{Writing}
 use Rattle.lines.specs.Classes.{has_upgraded, in_section, is_counted, is_upgrading, is_writing_normally, may_write}
 use Rattle.lines.specs.Lines.{next_deed}
-use Rattle.lines.specs.Rights.{right_of}
-use Rattle.calls.specs.declared.record.Record.{Record}
-use Rattle.calls.specs.Census.{tasks_that}
-use Rattle.calls.specs.Checks.{state_checked, state_refusal}
-use Rattle.calls.specs.Records.{fresh}
-use Rattle.calls.specs.SoundState.{Alone, SoundState, at_place}
 use Rattle.calls.specs.States.{State, record_of}
-use Rattle.calls.specs.Steps.{Answer, Call, Calls, Carried, Verdict, after_deed, at_once, deed_refusal, done, judge, line, lined, no, refuse}
-use Rattle.calls.proofs.Counts.{counted_one}
+use Rattle.calls.specs.Steps.{Answer, Call, Calls, Carried, Verdict, after_deed, at_once, done, judge, line, lined, refuse}
 use Rattle.calls.proofs.Obeyed.{call_same}
-use Rattle.calls.proofs.SoundState.{sound_unbroken}
 use Rattle.lock.specs.Promises.{HasRight, IsOwn, Obeyed}
-use Rattle.lock.specs.Runs.{Made, Run, RunWhile}
+use Rattle.lock.specs.Runs.{Made, RunWhile}
 use Rattle.lock.proofs.Allowed.{allowed}
-use Rattle.lock.proofs.Facts.{Cells, OneTask, Task, TwoTasks, seen, two}
-use Rattle.lock.proofs.Holds.{Holds, at, seen_at, tick_counted}
-use Rattle.lock.proofs.Judged.{Due, Lawful}
+use Rattle.lock.proofs.Facts.{Cells, OneTask, Task, TwoTasks}
+use Rattle.lock.proofs.Holds.{at}
+use Rattle.lock.proofs.Judged.{Lawful}
 use Rattle.lock.proofs.Lasting.{line_lawful}
 use Rattle.lock.proofs.Meant.{Meant, meant}
 

@@ -1,20 +1,18 @@
 -- A lock whose facts hold is sound: the check finds no broken rule.
-use Rattle.std.proofs.Common.{◌≡◌, ℕ, ◌+◌, ◌<◌, ◌≤◌, Bool, true, false, cond, ◌≢◌, List, length, get_or, None, Ok, sym, refl, ap, ◌∙◌, inl, inr, arith}
+use Rattle.std.proofs.Common.{◌≡◌, ℕ, ◌<◌, ◌≤◌, true, cond, List, length, get_or, None, Ok, refl, ap, inl, inr, arith}
 use Rattle.std.proofs.lemmas.Bool.{cases_Bool, cases_eq, le-leb, ne_eqb}
 use Rattle.std.proofs.lemmas.List.Sums.{count_by-le-length}
 use Rattle.lines.specs.declared.place.Place.{Place}
-use Rattle.lines.specs.declared.place.Place.TheVariants.{Rest, Inside, Next}
 use Rattle.lines.specs.declared.place.Role.{Role}
 use Rattle.lines.specs.declared.place.Role.TheVariants.{Reader}
 use Rattle.lines.specs.declared.place.Standing.{Standing}
-use Rattle.lines.specs.Classes.{has_upgraded, in_section, is_counted, is_upgrading, is_writing_normally, may_write, upgrading_at, writes_at}
+use Rattle.lines.specs.Classes.{has_upgraded, is_counted, is_upgrading, upgrading_at, writes_at}
 use Rattle.calls.specs.declared.record.Record.{Record}
 use Rattle.calls.specs.Census.{tasks_that}
-use Rattle.calls.specs.Checks.{broken_rule, state_checked, state_refusal}
+use Rattle.calls.specs.Checks.{state_checked}
 use Rattle.calls.specs.Records.{fresh}
 use Rattle.calls.specs.SoundState.{Alone, SoundState, at_place}
 use Rattle.calls.specs.States.{State}
-use Rattle.calls.specs.Told.{told}
 use Rattle.calls.proofs.Counts.{counted_one, counts_one}
 use Rattle.calls.proofs.SoundState.{sound_unbroken}
 use Rattle.lock.proofs.Facts.{rank_at, two}

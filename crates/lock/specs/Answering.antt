@@ -3,8 +3,6 @@ use Rattle.std.specs.Prelude.{◌≡◌, ℕ, List, None}
 use Rattle.memory.specs.declared.interface.Memory.{Ghosts}
 use Rattle.memory.specs.declared.operation.Operation.{Operation}
 use Rattle.memory.specs.Operations.{after, refusal}
-use Rattle.cache.specs.declared.layer.Cache.{Cache}
-use Rattle.cache.specs.Layers.{cached}
 use Rattle.calls.specs.States.{State}
 use Rattle.calls.specs.Steps.{Answer, Call, Calls}
 

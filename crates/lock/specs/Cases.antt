@@ -1,16 +1,15 @@
 -- Cases worked out to the unit: cells, places and costs of a lock over the cache layer on a memory whose operations cost 1.
-use Rattle.std.specs.Prelude.{◌≡◌, ℕ, zero, suc, true, false, List, [], ◌∷◌, ◌++◌, map, Some, None, slice_index}
+use Rattle.std.specs.Prelude.{◌≡◌, ℕ, zero, suc, true, false, List, [], ◌∷◌, ◌++◌, map, Some, None}
 use Rattle.memory.specs.Cells.{zeros}
 use Rattle.lines.specs.declared.place.Line.TheVariants.{L16p1, L22, L22p2, L27p5}
 use Rattle.lines.specs.declared.place.Place.{Place}
 use Rattle.lines.specs.declared.place.Place.TheVariants.{Inside, Next}
-use Rattle.lines.specs.declared.place.Right.{Right}
 use Rattle.lines.specs.declared.place.Right.TheVariants.{Reading, Writing}
 use Rattle.lines.specs.declared.place.Standing.{Standing}
-use Rattle.lines.specs.declared.place.Standing.TheVariants.{Normal, Upgraded, Downgraded}
+use Rattle.lines.specs.declared.place.Standing.TheVariants.{Normal, Upgraded}
 use Rattle.calls.specs.declared.refusal.Refusal.TheVariants.{Limit, Thickness}
 use Rattle.calls.specs.Opening.{enlisted, open_refusal, opening_cells}
-use Rattle.calls.specs.States.{State, record_of}
+use Rattle.calls.specs.States.{record_of}
 use Rattle.calls.specs.Steps.{Answer, Call, Verdict, advance, at_once, begin, done, downgrade, gives, judge, line, no, put, read, refuse, take, upgrade}
 use Rattle.lock.specs.Counted.{Counted, counted_run}
 

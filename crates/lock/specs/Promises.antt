@@ -1,5 +1,5 @@
 -- What an opened lock promises. s is its state when it was opened and m its memory then; each promise speaks of every run from there.
-use Rattle.std.specs.Prelude.{◌≡◌, ℕ, ◌+◌, ◌*◌, ◌≤◌, false, List, [], ◌∷◌, length, map, Some, None, Ok, Option, ◌≢◌, ◌==◌, cond, slice_index}
+use Rattle.std.specs.Prelude.{◌≡◌, ℕ, ◌+◌, ◌*◌, ◌≤◌, false, List, [], length, map, Some, None, Ok, ◌≢◌, slice_index}
 use Rattle.memory.specs.Calls.{Doing}
 use Rattle.lines.specs.declared.place.Right.{Right}
 use Rattle.lines.specs.declared.place.Right.TheVariants.{Reading, Writing}

@@ -9,13 +9,11 @@ use memory::interface::Memory;
 // Cells, places and costs of the cases.
 pub fn cases_hold()
     ensures { Cases }
-{
-}
+{}
 
 // From each state each call has an answer and a next state, over a memory that does what it does not refuse; seven numbers alone
 // are such a memory.
 pub fn calls_answer<M: Memory>()
     ensures any { Total M.Memory → EachAnswers M.Memory }
     ensures one { (limit : ℕ) → Total (numbers_alone limit) × EachAnswers (numbers_alone limit) }
-{
-}
+{}

@@ -3,8 +3,8 @@
 
 mod access;
 pub mod caching;
-pub mod cases;
 pub mod calling;
+pub mod cases;
 mod deeds;
 mod ending;
 pub mod locks;
