@@ -11,7 +11,7 @@ use Rattle.calls.specs.declared.refusal.Refusal.TheVariants.{Limit, Thickness}
 use Rattle.calls.specs.Opening.{enlisted, open_refusal, opening_cells}
 use Rattle.calls.specs.States.{record_of}
 use Rattle.calls.specs.Steps.{Answer, Call, Verdict, advance, at_once, begin, done, downgrade, gives, judge, line, no, put, read, refuse, take, upgrade}
-use Rattle.lock.specs.Counted.{Counted, counted_run}
+use Rattle.lock.specs.Counted.{Counted, answer_of, counted_run}
 
 -- a call so many times
 abbrev pub times : ℕ → Call → List Call
@@ -32,12 +32,7 @@ after_calls roles cs = counted_run cs (record { state = record { number = 1; ope
 abbrev pub Stands : Counted → ℕ → Place → Standing → ℕ → Type 0
 Stands x t p s cost = ((record_of x.state t).track.place ≡ p) × ((record_of x.state t).track.standing ≡ s) × ((record_of x.state t).account.cost ≡ cost)
 
--- what a call answers where every line that is due is done
-abbrev pub answer_of : Verdict → Answer
-answer_of (refuse e) = no e
-answer_of (line t r) = done
-answer_of (at_once a z) = a
-
+-- what a call answers
 abbrev pub answered : Counted → Call → Answer
 answered x c = answer_of (judge c x.state)
 

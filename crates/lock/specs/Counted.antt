@@ -8,7 +8,7 @@ use Rattle.lines.specs.declared.deed.Deed.{Deed}
 use Rattle.lines.specs.declared.deed.Deed.TheVariants.{Touch, Join, First, Quit, Nothing}
 use Rattle.lines.specs.Lines.{next_deed}
 use Rattle.calls.specs.States.{State}
-use Rattle.calls.specs.Steps.{Call, Verdict, after_deed, at_once, judge, line, refuse}
+use Rattle.calls.specs.Steps.{Answer, Call, Verdict, after_deed, at_once, done, judge, line, no, refuse}
 
 -- the masks of the copies after a deed of task t
 abbrev pub masks_after : Deed → ℕ → List ℕ → List ℕ
@@ -41,6 +41,12 @@ abbrev pub counted : Verdict → Counted → Counted
 counted (refuse e) x = x
 counted (line t r) x = record { state = after_deed t r (next_deed t r.track) (unit_share (next_deed t r.track) t x.masks) x.state; masks = masks_after (next_deed t r.track) t x.masks }
 counted (at_once a z) x = record { state = z; masks = x.masks }
+
+-- what a call answers that came to this verdict: each line that is due is done
+abbrev pub answer_of : Verdict → Answer
+answer_of (refuse e) = no e
+answer_of (line t r) = done
+answer_of (at_once a z) = a
 
 -- the calls, one after the other
 abbrev pub counted_run : List Call → Counted → Counted
