@@ -9,7 +9,7 @@ use Rattle.calls.specs.declared.refusal.Refusal.{Refusal}
 use Rattle.calls.specs.Opening.{Opens, Wrote, open_refusal, opening_writes}
 use Rattle.calls.specs.States.{State}
 use Rattle.calls.specs.Steps.{Answer, Call, Calls, Carried, LineShares, Verdict, after_deed, at_once, judge, line, lined, refuse}
-use Rattle.lock.specs.Counted.{Counted, counted, counted_run, unit_share}
+use Rattle.lock.specs.Counted.{Counted, counted, counted_run, masks_after, unit_share}
 use Rattle.lock.specs.Promises.{ExactCosts}
 use Rattle.lock.specs.Runs.{Made, RunWhile}
 use Rattle.lock.proofs.Allowed.{allowed}

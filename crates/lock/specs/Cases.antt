@@ -10,7 +10,7 @@ use Rattle.lines.specs.declared.place.Standing.TheVariants.{Normal, Upgraded}
 use Rattle.calls.specs.declared.refusal.Refusal.TheVariants.{Limit, Thickness}
 use Rattle.calls.specs.Opening.{enlisted, open_refusal, opening_cells}
 use Rattle.calls.specs.States.{record_of}
-use Rattle.calls.specs.Steps.{Answer, Call, Verdict, advance, at_once, begin, done, downgrade, gives, judge, line, no, put, read, refuse, take, upgrade}
+use Rattle.calls.specs.Steps.{Answer, Call, advance, begin, downgrade, gives, judge, no, put, read, take, upgrade}
 use Rattle.lock.specs.Counted.{Counted, answer_of, counted_run}
 
 -- a call so many times
