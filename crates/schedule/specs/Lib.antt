@@ -3,3 +3,4 @@ pub mod Answers
 pub mod Desks
 pub mod Replies
 pub mod Listing
+pub mod Meaning
