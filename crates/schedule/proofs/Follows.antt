@@ -26,19 +26,13 @@ use Rattle.script.specs.Calls.{Ask, advance, begin, downgrade, leave, opening, p
 use Rattle.listing.specs.declared.answer.Answer.{Answer}
 use Rattle.listing.specs.declared.answer.Answer.TheVariants as answer
 use Rattle.schedule.specs.Answers.{ByRight, LaidBack, Moves, OpensTo, TakesAndUses, Tells, Uses, answered, is_left, task_shown, telling}
+use Rattle.schedule.specs.Boards.{UnitMemory}
+use Rattle.schedule.specs.Boards as boards
 use Rattle.schedule.specs.Meaning.{by_right, laid_back, made, moves, opened, takes_and_uses, tell, used}
 
--- a memory with this limit, each of whose operations costs 1
-pub record UnitMemory (limit : ℕ) {M : Type 0} (mem : MemoryGhosts M) : Type 0 where
-  pub limit_is : mem.limit ≡ limit
-  pub top_is : (m : M) → mem.top m ≡ 1
-  pub one : CostsOne mem.does
-
 module _ {B Q : Type 0} (mem : MemoryGhosts B) (que : QueueGhosts Q) (limit : ℕ) (unit : UnitMemory limit mem) where
-  -- the lock and the copies of its tasks are those of the board
-  pub record Follows (l : Lock (Cache B) Q) (x : Counted) : Type 0 where
-    pub state : view (cached mem) que l ≡ x.state
-    pub masks : l.memory.copies.masks ≡ x.masks
+  abbrev pub Follows : Lock (Cache B) Q → Counted → Type 0
+  Follows l x = boards.Follows mem que l x
 
   abbrev pub Ready : Counted → Type 0
   Ready x = Able mem.limit x.state

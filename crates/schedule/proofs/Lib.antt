@@ -1,3 +1,4 @@
 pub mod Lines
 pub mod Taken
 pub mod Follows
+pub mod Boards

@@ -4,3 +4,4 @@ pub mod Desks
 pub mod Replies
 pub mod Listing
 pub mod Meaning
+pub mod Boards
