@@ -95,11 +95,11 @@ module _ (limit : ℕ) where
   tell_ready (read t row) x g = right_ready (right_told x.state t) t false (λ w k u. calls.read w k u row) x g
   tell_ready (put t row n) x g = takes_ready Writing t false (λ w k u. calls.put k u row n) x g
 
-abbrev ReadyAt : Option Pair → Counted → Type 0
+abbrev pub ReadyAt : Option Pair → Counted → Type 0
 ReadyAt None x = Unit {0}
 ReadyAt (Some c) x = Able (limit_of c.memory) x.state
 
-abbrev BoardReady : Board → Type 0
+abbrev pub BoardReady : Board → Type 0
 BoardReady b = ReadyAt b.chosen b.lock
 
 either_way : {A : Type 0} (b : Bool) (a : A) → cond b a a ≡ a
@@ -130,7 +130,7 @@ replied_ready (Ok blank) b g = g
 replied_ready (Ok (note text)) b g = g
 replied_ready (Ok (call a)) b g = tells_ready b.chosen a b.lock g
 
-after_ready : (ls : List (List ℕ)) (b : Board) → BoardReady b → BoardReady (board_after b ls)
+pub after_ready : (ls : List (List ℕ)) (b : Board) → BoardReady b → BoardReady (board_after b ls)
 after_ready [] b g = g
 after_ready (l ∷ ls) b g = after_ready ls (replied (parse l) b).1 (replied_ready (parse l) b g)
 

@@ -2,3 +2,5 @@ pub mod Lines
 pub mod Taken
 pub mod Follows
 pub mod Boards
+pub mod Listed
+pub mod Printed

@@ -7,6 +7,7 @@ pub mod desk;
 pub mod desking;
 mod obeying;
 mod passes;
+pub mod printing;
 pub mod refusal;
 pub mod running;
 pub mod schedule;

@@ -1,7 +1,9 @@
 // Running a schedule line by line. Each line of the listing is written at the start of a lent buffer.
-ghost use Rattle.std.specs.Prelude.{ℕ, ◌+◌, ◌≤◌, length};
+ghost use Rattle.std.specs.Prelude.{ℕ, ◌+◌, ◌≤◌, List, length};
 ghost use Rattle.listing.specs.Written.{Put};
 ghost use Rattle.schedule.specs.Replies.{Within, heard};
+ghost use Rattle.schedule.specs.Boards.{GivesListed, Stands, UnitMemory};
+ghost use Rattle.schedule.specs.Meaning.{Board};
 ghost use Rattle.schedule.specs.Listing.{Begun, Gives, refusal_bytes, reply_bytes};
 
 use crate::desk::Desk;
@@ -61,7 +63,8 @@ impl<'s, 'b, 'a, W: Memory, P: Memory, R: Queue, K: Queue> Schedule<'s, 'b, 'a, 
     // Does the next line, and tells how many bytes of `out` are now its line of the listing; nothing
     // at the end. An input that is too long gives one line, which tells 43. Refused: 39.
     pub fn line_bytes(&mut self, out: &mut [u8]) -> Result<Option<usize>, Refusal>
-        ensures { Gives W.Memory P.Memory R.Queue K.Queue self.old out.old result self.new out.new }
+        ensures gives { Gives W.Memory P.Memory R.Queue K.Queue self.old out.old result self.new out.new }
+        ensures listed { (input : List ℕ) (b : Board) → UnitMemory 4294967295 W.Memory → UnitMemory 15 P.Memory → Stands W.Memory P.Memory R.Queue K.Queue input self.old b → GivesListed W.Memory P.Memory R.Queue K.Queue input self.old out.old b result self.new out.new }
     {
         if out.len() < ROOM {
             return Err(Refusal::Line(script::refusal::Refusal::Room));

@@ -1,0 +1,142 @@
+-- The bytes of all lines, one after another, are the listing.
+use Rattle.std.proofs.Common.{◌≡◌, ℕ, ◌+◌, ◌-◌, ◌≤◌, ◌<◌, Bool, true, false, cond, leb, List, [], ◌∷◌, ◌++◌, length, take, drop, Some, None, Ok, Err, Option, Result, sym, refl, ap, ◌∙◌, subst, inl, inr, arith}
+use Rattle.std.proofs.lemmas.Bool.{cases_Bool}
+use Rattle.std.proofs.lemmas.List.{append_assoc}
+use Rattle.std.specs.Io.KnownBytes.{Appends}
+use Rattle.memory.specs.declared.interface.Memory.{Ghosts as MemoryGhosts}
+use Rattle.queue.specs.declared.interface.Queue.{Ghosts as QueueGhosts}
+use Rattle.script.specs.declared.call.MemoryKind.{MemoryKind}
+use Rattle.script.specs.declared.call.MemoryKind.TheVariants.{Words, Packed}
+use Rattle.script.specs.declared.call.QueueKind.{QueueKind}
+use Rattle.script.specs.declared.call.QueueKind.TheVariants.{Ring, Masks}
+use Rattle.script.specs.declared.refusal.Refusal.TheVariants.{Length}
+use Rattle.script.specs.Calls.{parse}
+use Rattle.script.specs.Cuts.{lines}
+use Rattle.script.specs.Reading.{to_come as lines_to_come}
+use Rattle.listing.specs.Written.{TookBytes}
+use Rattle.schedule.specs.declared.desk.Desk.{Desk}
+use Rattle.schedule.specs.declared.refusal.Refusal.{Refusal}
+use Rattle.schedule.specs.declared.schedule.Schedule.{Schedule}
+use Rattle.schedule.specs.Boards.{AtBoard, Follows, GivesListed, PairFollows, Stands, UnitMemory}
+use Rattle.schedule.specs.Listing.{Begun, Gives, GivesLine, left, reply_bytes, whole_refused}
+use Rattle.schedule.specs.Meaning.{Board, first_board, listed, listing, replied}
+
+all_of : (xs : List ℕ) → xs ≡ xs ++ []
+all_of [] = refl
+all_of (x ∷ xs) = ap (λ ys. x ∷ ys) (all_of xs)
+
+pub appends_none : (a : Option (List ℕ)) → Appends a a []
+appends_none None = tt
+appends_none (Some xs) = all_of xs
+
+pub appends_more : (a b c : Option (List ℕ)) (xs ys : List ℕ) → Appends a b xs → Appends b c ys → Appends a c (xs ++ ys)
+appends_more None b c xs ys h k = tt
+appends_more (Some old) None c xs ys h k = absurd h
+appends_more (Some old) (Some bs) None xs ys h k = absurd k
+appends_more (Some old) (Some bs) (Some cs) xs ys h k = k ∙ ap (λ z. z ++ ys) h ∙ append_assoc old xs ys
+
+take_laid : (bs d : List ℕ) → take (length bs) (bs ++ d) ≡ bs
+take_laid [] d = refl
+take_laid (b ∷ bs) d = ap (λ z. b ∷ z) (take_laid bs d)
+
+-- the bytes handed out are at the start of the buffer
+pub taken_bytes : (d bs o : List ℕ) (count : ℕ) → TookBytes d bs count o → take count o ≡ bs
+taken_bytes d bs o count t = ap (λ n. take n o) t.count ∙ ap (take (length bs)) t.after ∙ take_laid bs (drop (length bs) d)
+
+module _ {W P R K : Type 0} (w : MemoryGhosts W) (p : MemoryGhosts P) (r : QueueGhosts R) (k : QueueGhosts K) (input : List ℕ) where
+  -- what is still to be printed
+
+  pub data Rest (s : Schedule W P R K) : List ℕ → Type 0 where
+    lines_left : (b : Board) → Stands w p r k input s b → Rest s (listed s.reader.number b (left s))
+    untold : s.untold ≡ Some Length → left s ≡ [] → Rest s (whole_refused Length)
+    all_told : s.untold ≡ None → left s ≡ [] → Rest s []
+
+  pub begun_rest : (desk : Desk W P R K) (s : Schedule W P R K) → Begun input desk s → AtBoard w p r k desk first_board → Rest s (listing input)
+  begun_rest desk s begun at =
+      elim (cases_Bool (leb (length input) 65536)) [
+        | inl few ↦
+            let next : left s ≡ lines input = begun.lines_left ∙ ap (λ b. cond b (lines input) []) few in
+            let stands : Stands w p r k input s first_board = record { done = []; cut = sym next; counted = begun.none_done; board = refl; desk = subst (λ d. AtBoard w p r k d first_board) (sym begun.at_desk) at; told = begun.untold ∙ ap (λ b. cond b None (Some Length)) few } in
+            let is : listed s.reader.number first_board (left s) ≡ listing input = ap (λ n. listed n first_board (left s)) begun.none_done ∙ ap (listed 0 first_board) next ∙ sym (ap (λ b. cond b (listed 0 first_board (lines input)) (whole_refused Length)) few) in
+            subst (Rest s) is (lines_left first_board stands)
+        | inr many ↦
+            let is : whole_refused Length ≡ listing input = sym (ap (λ b. cond b (listed 0 first_board (lines input)) (whole_refused Length)) many) in
+            subst (Rest s) is (untold (begun.untold ∙ ap (λ b. cond b None (Some Length)) many) (begun.lines_left ∙ ap (λ b. cond b (lines input) []) many))
+      ]
+
+  -- one turn: the bytes of a line, and what is left then
+  pub record Turn (t : Schedule W P R K) (rest d : List ℕ) (count : ℕ) (o : List ℕ) : Type 0 where
+    pub bytes : List ℕ
+    pub later : List ℕ
+    pub parts : rest ≡ bytes ++ later
+    pub took : TookBytes d bytes count o
+    pub next : Rest t later
+
+  none_some : {A : Type 0} {x : A} → ◌≡◌ {A = Option A} None (Some x) → ⊥
+  none_some h = let z : ◌≡◌ {A = ℕ} 0 1 = cc in omega arith
+
+  pub turned : (s t : Schedule W P R K) (rest d o : List ℕ) (count : ℕ) → Rest s rest → Gives w p r k s d (Ok (Some count)) t o → ((b : Board) → Stands w p r k input s b → GivesListed w p r k input s d b (Ok (Some count)) t o) → Turn t rest d count o
+  turned s t rest d o count (lines_left b stands) gives given =
+      let (l, next, took, stands') = given b stands in
+      let n = s.reader.number in
+      let number : t.reader.number ≡ n + 1 = (subst (λ u. GivesLine w p r k u s d (Some count) t o) stands.told gives.1).number in
+      let later = listed t.reader.number (replied (parse l) b).1 (left t) in
+      let bytes = reply_bytes (n + 1) (replied (parse l) b).0 in
+      record {
+        bytes = bytes;
+        later = later;
+        parts = ap (listed n b) next ∙ ap (λ m. bytes ++ listed m (replied (parse l) b).1 (left t)) (sym number);
+        took = took;
+        next = lines_left (replied (parse l) b).1 stands';
+      }
+  turned s t rest d o count (untold why none) gives given =
+      let whole = subst (λ u. GivesLine w p r k u s d (Some count) t o) why gives.1 in
+      record { bytes = whole_refused Length; later = []; parts = all_of (whole_refused Length); took = whole.bytes; next = all_told whole.told (ap lines_to_come whole.reader ∙ none) }
+  turned s t rest d o count (all_told told none) gives given =
+      let did = subst (λ u. GivesLine w p r k u s d (Some count) t o) told gives.1 in
+      absurd (omega (arith, ap length (sym none ∙ did.next)))
+
+  pub nothing_left : (s t : Schedule W P R K) (rest d o : List ℕ) → Rest s rest → Gives w p r k s d (Ok None) t o → rest ≡ []
+  nothing_left s t rest d o (lines_left b stands) gives =
+      let ended = subst (λ u. GivesLine w p r k u s d None t o) stands.told gives.1 in
+      ap (listed s.reader.number b) ended.0.none_left
+  nothing_left s t rest d o (untold why none) gives = absurd (subst (λ u. GivesLine w p r k u s d None t o) why gives.1)
+  nothing_left s t rest d o (all_told told none) gives = refl
+
+  -- what was printed so far, and what is still to be
+  pub record Printing (before now : Option (List ℕ)) (s : Schedule W P R K) : Type 0 where
+    pub printed : List ℕ
+    pub rest : List ℕ
+    pub whole : printed ++ rest ≡ listing input
+    pub wrote : Appends before now printed
+    pub to_come : Rest s rest
+
+  -- a desk over the same locks
+  pub same_locks : (d e : Desk W P R K) → e.chosen ≡ d.chosen → e.words_ring.now ≡ d.words_ring.now → e.words_masks.now ≡ d.words_masks.now → e.packed_ring.now ≡ d.packed_ring.now → e.packed_masks.now ≡ d.packed_masks.now → AtBoard w p r k d first_board → AtBoard w p r k e first_board
+  same_locks d e chosen first second third fourth at = record { chosen = chosen ∙ at.chosen; follows = each }
+    where
+      each : (m : MemoryKind) (q : QueueKind) → PairFollows w p r k m q e first_board.lock
+      each Words Ring = subst (λ l. Follows w r l first_board.lock) (sym first) (at.follows Words Ring)
+      each Words Masks = subst (λ l. Follows w k l first_board.lock) (sym second) (at.follows Words Masks)
+      each Packed Ring = subst (λ l. Follows p r l first_board.lock) (sym third) (at.follows Packed Ring)
+      each Packed Masks = subst (λ l. Follows p k l first_board.lock) (sym fourth) (at.follows Packed Masks)
+
+  pub printing_begun : (desk : Desk W P R K) (s : Schedule W P R K) (a : Option (List ℕ)) → Begun input desk s → AtBoard w p r k desk first_board → Printing a a s
+  printing_begun desk s a begun at = record { printed = []; rest = listing input; whole = refl; wrote = appends_none a; to_come = begun_rest desk s begun at }
+
+  pub printing_on : (s t : Schedule W P R K) (d o : List ℕ) (count : ℕ) (found : Option ℕ) (a b c : Option (List ℕ)) → found ≡ Some count → Printing a b s → Gives w p r k s d (Ok found) t o → ((x : Board) → Stands w p r k input s x → GivesListed w p r k input s d x (Ok found) t o) → Appends b c (take (count - 0) o) → Printing a c t
+  printing_on s t d o count found a b c is pr gives given wrote =
+      let turn = turned s t pr.rest d o count pr.to_come (subst (λ f. Gives w p r k s d (Ok f) t o) is gives) (λ x stands. subst (λ f. GivesListed w p r k input s d x (Ok f) t o) is (given x stands)) in
+      record {
+        printed = pr.printed ++ turn.bytes;
+        rest = turn.later;
+        whole = append_assoc pr.printed turn.bytes turn.later ∙ ap (λ z. pr.printed ++ z) (sym turn.parts) ∙ pr.whole;
+        wrote = appends_more a b c pr.printed turn.bytes pr.wrote (subst (Appends b c) (ap (λ n. take n o) (omega arith) ∙ taken_bytes d turn.bytes o count turn.took) wrote);
+        to_come = turn.next;
+      }
+
+  pub printing_done : (s t : Schedule W P R K) (d o : List ℕ) (a b : Option (List ℕ)) → Printing a b s → Gives w p r k s d (Ok None) t o → Appends a b (listing input)
+  printing_done s t d o a b pr gives =
+      let none = nothing_left s t pr.rest d o pr.to_come gives in
+      let is : pr.printed ≡ listing input = all_of pr.printed ∙ ap (λ z. pr.printed ++ z) (sym none) ∙ pr.whole in
+      subst (Appends a b) is pr.wrote
