@@ -1,50 +1,56 @@
 // ribrun: reads a schedule from standard input, and prints its listing.
 #![tactic(auto)]
 
+ghost use Rattle.std.specs.Io.KnownBytes.{Appends};
+ghost use Rattle.std.specs.Prelude.{OnOk};
+ghost use Rattle.schedule.specs.Boards.{Follows, UnitMemory};
+ghost use Rattle.schedule.specs.Meaning.{first_board, listing};
+
 use cache::layer::Cache;
 use lock::locks::Lock;
 use masks::before::Masks;
+use memory::interface::Memory;
 use packed::word::Packed;
+use queue::interface::Queue;
 use queue::ring::Ring;
 use schedule::desk::Desk;
-use schedule::running::ROOM;
-use schedule::schedule::Schedule;
+use schedule::printing::print;
 use std::io;
 use std::io::{Read, Write};
 use words::array::Words;
 
-// Prints the listing of a schedule, line by line. The four locks come one by one, since the borrow
+// Prints the listing of a schedule, its calls made to these four locks. They come one by one, since the borrow
 // checker wants all that a desk borrows lent at one lifetime.
-fn print<'b, 'a>(
-    rt: &HostRuntime,
+fn list_over<'b, 'a, W: Memory, P: Memory, R: Queue, K: Queue, T: Write>(
     input: &[u8],
-    words_ring: &'b mut Lock<'a, Cache<Words>, Ring>,
-    words_masks: &'b mut Lock<'a, Cache<Words>, Masks>,
-    packed_ring: &'b mut Lock<'a, Cache<Packed>, Ring>,
-    packed_masks: &'b mut Lock<'a, Cache<Packed>, Masks>,
-) -> io::Result<()> {
-    let desk = Desk::new(words_ring, words_masks, packed_ring, packed_masks);
-    let mut schedule = Schedule::new(input, desk);
-    let mut buffer = [0; ROOM];
-    let mut stdout = rt.stdout();
-    while let Ok(Some(count)) = schedule.line_bytes(&mut buffer) {
-        stdout.write_all(&buffer[0..count])?;
-    }
-    Ok(())
+    out: &mut T,
+    words_ring: &'b mut Lock<'a, Cache<W>, R>,
+    words_masks: &'b mut Lock<'a, Cache<W>, K>,
+    packed_ring: &'b mut Lock<'a, Cache<P>, R>,
+    packed_masks: &'b mut Lock<'a, Cache<P>, K>,
+) -> io::Result<()>
+    ensures { UnitMemory 4294967295 W.Memory → UnitMemory 15 P.Memory → Follows W.Memory R.Queue words_ring.old first_board.lock → Follows W.Memory K.Queue words_masks.old first_board.lock → Follows P.Memory R.Queue packed_ring.old first_board.lock → Follows P.Memory K.Queue packed_masks.old first_board.lock → OnOk result (Appends (T.Write.contents out.old) (T.Write.contents out.new) (listing input.now)) }
+{
+    print(
+        input,
+        Desk::new(words_ring, words_masks, packed_ring, packed_masks),
+        out,
+    )
 }
 
-// One lock for each pair of memory and queue, each over 16 rows that nobody has measured.
-fn run(rt: &HostRuntime) -> io::Result<()> {
-    let mut input = Vec::new(rt.alloc());
-    rt.stdin().read_to_end(&mut input)?;
+// Prints the listing of a schedule: one lock for each pair of memory and queue, each over 16 rows that
+// nobody has measured. Where nothing fails, the listing is what was written, and no more.
+fn list<T: Write>(input: &[u8], out: &mut T) -> io::Result<()>
+    ensures { OnOk result (Appends (T.Write.contents out.old) (T.Write.contents out.new) (listing input.now)) }
+{
     let (mut a, mut b, mut c, mut d) = ([0; 16], [0; 16], [0; 16], [0; 16]);
     let mut words_ring = Lock::new(1, Cache::new(Words::new()), Ring::new(), &mut a);
     let mut words_masks = Lock::new(1, Cache::new(Words::new()), Masks::new(), &mut b);
     let mut packed_ring = Lock::new(1, Cache::new(Packed::new()), Ring::new(), &mut c);
     let mut packed_masks = Lock::new(1, Cache::new(Packed::new()), Masks::new(), &mut d);
-    print(
-        rt,
-        input.as_slice(),
+    list_over(
+        input,
+        out,
         &mut words_ring,
         &mut words_masks,
         &mut packed_ring,
@@ -53,5 +59,7 @@ fn run(rt: &HostRuntime) -> io::Result<()> {
 }
 
 fn main(rt: HostRuntime) -> io::Result<()> {
-    run(&rt)
+    let mut input = Vec::new(rt.alloc());
+    rt.stdin().read_to_end(&mut input)?;
+    list(input.as_slice(), &mut rt.stdout())
 }
