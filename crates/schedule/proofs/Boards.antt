@@ -1,5 +1,5 @@
 -- A desk follows its board, and a schedule its listing, line by line.
-use Rattle.std.proofs.Common.{◌≡◌, ℕ, zero, suc, ◌+◌, ◌-◌, ◌≤◌, Bool, true, false, cond, List, [], ◌∷◌, ◌++◌, length, is_ok, Some, None, Ok, Err, Option, Result, sym, refl, ap, ◌∙◌, subst, arith}
+use Rattle.std.proofs.Common.{◌≡◌, ℕ, ◌-◌, Bool, true, false, cond, List, [], ◌∷◌, length, is_ok, Some, None, Ok, Err, Option, Result, sym, refl, ap, ◌∙◌, subst, arith}
 use Rattle.std.proofs.lemmas.List.{length-set}
 use Rattle.cache.specs.declared.layer.Cache.{Cache}
 use Rattle.cache.specs.Layers.{cached}
@@ -11,10 +11,8 @@ use Rattle.lines.specs.declared.place.Right.TheVariants.{Reading, Writing}
 use Rattle.lines.specs.Deeds.{finds}
 use Rattle.lines.specs.Lines.{next_deed}
 use Rattle.calls.specs.declared.refusal.Refusal.{Refusal as LockRefusal}
-use Rattle.calls.specs.declared.refusal.Refusal.TheVariants.{Shut}
 use Rattle.calls.specs.Opening.{open_refusal, opened_to}
 use Rattle.calls.specs.Records.{settled}
-use Rattle.calls.specs.States.{State}
 use Rattle.calls.specs.Steps.{Call, Verdict, at_once, judge, line, refuse}
 use Rattle.calls.specs.Steps as calls
 use Rattle.calls.specs.Told.{right_told}
@@ -30,19 +28,15 @@ use Rattle.script.specs.declared.call.QueueKind.{QueueKind}
 use Rattle.script.specs.declared.call.QueueKind.TheVariants.{Ring, Masks}
 use Rattle.script.specs.declared.refusal.Refusal.{Refusal as LineRefusal}
 use Rattle.script.specs.Calls.{Ask, Said, advance, begin, blank, call, downgrade, leave, note, opening, parse, put, read, upgrade}
-use Rattle.script.specs.Cuts.{lines}
 use Rattle.listing.specs.declared.answer.Answer.{Answer}
 use Rattle.listing.specs.declared.answer.Answer.TheVariants as answer
-use Rattle.listing.specs.Written.{TookBytes}
 use Rattle.schedule.specs.declared.desk.Desk.{Desk}
 use Rattle.schedule.specs.declared.desk.Pair.{Pair}
 use Rattle.schedule.specs.declared.refusal.Refusal.{Refusal}
-use Rattle.schedule.specs.declared.schedule.Schedule.{Schedule}
 use Rattle.schedule.specs.Answers.{is_left}
-use Rattle.schedule.specs.Boards.{AtBoard, Follows, FollowsAt, GivesListed, PairFollows, Stands, UnitMemory}
-use Rattle.schedule.specs.Desks.{DeskTells, DeskTellsAt, KindsTell, Same, pair_for}
-use Rattle.schedule.specs.Listing.{DidLine, Ended, Gives, GivesLine, left, reply_bytes}
-use Rattle.schedule.specs.Meaning.{Board, board_after, board_tells, by_right, first_board, laid_back, limit_of, made, moves, opened, replied, takes_and_uses, tell, tell_at, used}
+use Rattle.schedule.specs.Boards.{AtBoard, Follows, FollowsAt, PairFollows, UnitMemory}
+use Rattle.schedule.specs.Desks.{DeskTells, DeskTellsAt, KindsTell, pair_for}
+use Rattle.schedule.specs.Meaning.{Board, board_after, board_tells, by_right, laid_back, limit_of, made, opened, replied, takes_and_uses, tell, tell_at, used}
 use Rattle.schedule.specs.Replies.{Heard, Obeyed, raised}
 use Rattle.schedule.proofs.Follows.{OpenAgrees, open_agrees, tell_agrees}
 

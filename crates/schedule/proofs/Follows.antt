@@ -1,5 +1,5 @@
 -- The code's lock follows the board's, call by call.
-use Rattle.std.proofs.Common.{◌≡◌, ℕ, Bool, true, false, cond, List, [], length, Some, None, Ok, Err, Option, Result, sym, refl, ap, ◌∙◌, subst}
+use Rattle.std.proofs.Common.{◌≡◌, ℕ, Bool, true, false, List, length, Some, None, Ok, Err, Option, Result, sym, refl, ap, ◌∙◌, subst}
 use Rattle.cache.specs.declared.layer.Cache.{Cache}
 use Rattle.cache.specs.Layers.{cached}
 use Rattle.memory.specs.declared.interface.Memory.{Ghosts as MemoryGhosts}
@@ -15,9 +15,9 @@ use Rattle.calls.specs.Steps as calls
 use Rattle.calls.specs.Told.{right_told}
 use Rattle.lock.specs.declared.locks.Lock.{Lock}
 use Rattle.lock.specs.Answers.{said}
-use Rattle.lock.specs.Counted.{CostsOne, Counted, answer_of, counted}
+use Rattle.lock.specs.Counted.{Counted, answer_of, counted}
 use Rattle.lock.specs.Promises.{Obeyed}
-use Rattle.lock.specs.View.{Does, Opened, view}
+use Rattle.lock.specs.View.{Does, view}
 use Rattle.lock.proofs.Copies.{cached_exact}
 use Rattle.lock.proofs.ExactRuns.{call_exact, opened_copies}
 use Rattle.lock.proofs.Promised.{able}

@@ -4,3 +4,4 @@ pub mod Follows
 pub mod Boards
 pub mod Listed
 pub mod Printed
+pub mod WholeListing

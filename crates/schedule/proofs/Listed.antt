@@ -1,19 +1,17 @@
 -- The bytes of a line are those that the listing has for it, and the bytes of all lines are the listing.
-use Rattle.std.proofs.Common.{◌≡◌, ℕ, zero, suc, ◌+◌, ◌≤◌, ◌<◌, Bool, true, false, cond, leb, List, [], ◌∷◌, ◌++◌, length, Some, None, Ok, Err, Option, Result, sym, refl, ap, ◌∙◌, subst, arith}
+use Rattle.std.proofs.Common.{◌≡◌, ℕ, ◌+◌, List, [], ◌∷◌, ◌++◌, length, Some, None, Ok, Err, Option, Result, sym, refl, ap, ◌∙◌, subst, arith}
 use Rattle.std.proofs.lemmas.List.{append_assoc}
 use Rattle.memory.specs.declared.interface.Memory.{Ghosts as MemoryGhosts}
 use Rattle.queue.specs.declared.interface.Queue.{Ghosts as QueueGhosts}
-use Rattle.script.specs.declared.refusal.Refusal.{Refusal as LineRefusal}
 use Rattle.script.specs.Calls.{parse}
 use Rattle.script.specs.declared.reader.Reader.{Reader}
-use Rattle.script.specs.Cuts.{lines}
 use Rattle.script.specs.Reading.{to_come}
 use Rattle.listing.specs.Written.{TookBytes}
 use Rattle.schedule.specs.declared.refusal.Refusal.{Refusal}
 use Rattle.schedule.specs.declared.schedule.Schedule.{Schedule}
 use Rattle.schedule.specs.Boards.{AtBoard, GivesListed, Stands, UnitMemory}
-use Rattle.schedule.specs.Listing.{DidLine, Ended, Gives, GivesLine, left, reply_bytes}
-use Rattle.schedule.specs.Meaning.{Board, board_after, first_board, listed, replied}
+use Rattle.schedule.specs.Listing.{DidLine, Gives, GivesLine, left, reply_bytes}
+use Rattle.schedule.specs.Meaning.{Board, board_after, first_board, replied}
 use Rattle.schedule.proofs.Boards.{BoardReady, after_ready, line_agrees}
 
 board_snoc : (ls : List (List ℕ)) (l : List ℕ) (b : Board) → board_after b (ls ++ l ∷ []) ≡ (replied (parse l) (board_after b ls)).1
@@ -29,26 +27,33 @@ module _ {W P R K : Type 0} (w : MemoryGhosts W) (p : MemoryGhosts P) (r : Queue
   did_listed s t d o b count stands did =
       let l = did.text in
       let agrees = line_agrees w p r k words packed (parse l) did.reply s.desk t.desk b stands.desk (subst BoardReady (sym stands.board) (after_ready stands.done first_board tt)) did.obeyed in
-      let bytes : TookBytes d (reply_bytes (s.reader.number + 1) (replied (parse l) b).0) count o = subst (λ e. TookBytes d (reply_bytes (s.reader.number + 1) e) count o) agrees.0 (subst (λ n. TookBytes d (reply_bytes n did.reply) count o) did.number did.bytes) in
-      (l, did.next, bytes, record {
-        done = stands.done ++ l ∷ [];
-        cut = stands.cut ∙ ap (λ ls. stands.done ++ ls) did.next ∙ sym (append_assoc stands.done (l ∷ []) (left t));
-        counted = did.number ∙ ap (λ n. n + 1) stands.counted ∙ sym (one_more stands.done l);
-        board = ap (λ x. (replied (parse l) x).1) stands.board ∙ sym (board_snoc stands.done l first_board);
-        desk = agrees.1;
-        told = did.told;
-      })
+      let bytes : TookBytes d (reply_bytes (s.reader.number + 1) (replied (parse l) b).0) count o = subst (λ e. TookBytes d (reply_bytes (s.reader.number + 1) e) count o) agrees.0 (subst (λ n. TookBytes d (reply_bytes n did.reply) count o) did.number did.bytes) in (
+        l,
+        did.next,
+        bytes,
+        record {
+          done = stands.done ++ l ∷ [];
+          cut = stands.cut ∙ ap (λ ls. stands.done ++ ls) did.next ∙ sym (append_assoc stands.done (l ∷ []) (left t));
+          counted = did.number ∙ ap (λ n. n + 1) stands.counted ∙ sym (one_more stands.done l);
+          board = ap (λ x. (replied (parse l) x).1) stands.board ∙ sym (board_snoc stands.done l first_board);
+          desk = agrees.1;
+          told = did.told;
+        },
+      )
 
   line_given : (s t : Schedule W P R K) (d o : List ℕ) (b : Board) (given : Option ℕ) → Stands w p r k input s b → GivesLine w p r k None s d given t o → GivesListed w p r k input s d b (Ok given) t o
-  line_given s t d o b None stands (ended, same) =
-      (ended.none_left, same, record {
-        done = stands.done;
-        cut = stands.cut ∙ ap (λ x. stands.done ++ to_come x) (sym ended.reader);
-        counted = ap (λ (x : Reader). x.number) ended.reader ∙ stands.counted;
-        board = stands.board;
-        desk = subst (λ x. AtBoard w p r k x b) (sym ended.desk) stands.desk;
-        told = ended.untold ∙ stands.told;
-      })
+  line_given s t d o b None stands (ended, same) = (
+    ended.none_left,
+    same,
+    record {
+      done = stands.done;
+      cut = stands.cut ∙ ap (λ x. stands.done ++ to_come x) (sym ended.reader);
+      counted = ap (λ (x : Reader). x.number) ended.reader ∙ stands.counted;
+      board = stands.board;
+      desk = subst (λ x. AtBoard w p r k x b) (sym ended.desk) stands.desk;
+      told = ended.untold ∙ stands.told;
+    },
+  )
   line_given s t d o b (Some count) stands did = did_listed s t d o b count stands did
 
   pub line_listed : (s t : Schedule W P R K) (d o : List ℕ) (b : Board) (result : Result (Option ℕ) Refusal) → Stands w p r k input s b → Gives w p r k s d result t o → GivesListed w p r k input s d b result t o

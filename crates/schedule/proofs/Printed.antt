@@ -1,5 +1,5 @@
 -- The bytes of all lines, one after another, are the listing.
-use Rattle.std.proofs.Common.{◌≡◌, ℕ, ◌+◌, ◌-◌, ◌≤◌, ◌<◌, Bool, true, false, cond, leb, List, [], ◌∷◌, ◌++◌, length, take, drop, Some, None, Ok, Err, Option, Result, sym, refl, ap, ◌∙◌, subst, inl, inr, arith}
+use Rattle.std.proofs.Common.{◌≡◌, ℕ, ◌+◌, ◌-◌, cond, leb, List, [], ◌∷◌, ◌++◌, length, take, drop, Some, None, Ok, Option, sym, refl, ap, ◌∙◌, subst, inl, inr, arith}
 use Rattle.std.proofs.lemmas.Bool.{cases_Bool}
 use Rattle.std.proofs.lemmas.List.{append_assoc}
 use Rattle.std.specs.Io.KnownBytes.{Appends}
@@ -15,9 +15,8 @@ use Rattle.script.specs.Cuts.{lines}
 use Rattle.script.specs.Reading.{to_come as lines_to_come}
 use Rattle.listing.specs.Written.{TookBytes}
 use Rattle.schedule.specs.declared.desk.Desk.{Desk}
-use Rattle.schedule.specs.declared.refusal.Refusal.{Refusal}
 use Rattle.schedule.specs.declared.schedule.Schedule.{Schedule}
-use Rattle.schedule.specs.Boards.{AtBoard, Follows, GivesListed, PairFollows, Stands, UnitMemory}
+use Rattle.schedule.specs.Boards.{AtBoard, Follows, GivesListed, PairFollows, Stands}
 use Rattle.schedule.specs.Listing.{Begun, Gives, GivesLine, left, reply_bytes, whole_refused}
 use Rattle.schedule.specs.Meaning.{Board, first_board, listed, listing, replied}
 

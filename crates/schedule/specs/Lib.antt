@@ -5,3 +5,4 @@ pub mod Replies
 pub mod Listing
 pub mod Meaning
 pub mod Boards
+pub mod Laws

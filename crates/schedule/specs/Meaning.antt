@@ -9,7 +9,6 @@ use Rattle.lines.specs.declared.place.Right.TheVariants.{Reading, Writing}
 use Rattle.calls.specs.declared.refusal.Refusal.{Refusal as LockRefusal}
 use Rattle.calls.specs.declared.refusal.Refusal.TheVariants.{Outside, Shut}
 use Rattle.calls.specs.Opening.{open_refusal, opened_to}
-use Rattle.calls.specs.States.{State}
 use Rattle.calls.specs.Steps.{Call, judge}
 use Rattle.calls.specs.Steps as calls
 use Rattle.calls.specs.Told.{right_told}
@@ -28,7 +27,7 @@ use Rattle.schedule.specs.declared.refusal.Refusal.TheVariants.{Line}
 use Rattle.schedule.specs.Answers.{answered, is_left}
 use Rattle.schedule.specs.Desks.{pair_for}
 use Rattle.schedule.specs.Listing.{reply_bytes, whole_refused}
-use Rattle.schedule.specs.Replies.{Heard, answering, nothing, noting, raised}
+use Rattle.schedule.specs.Replies.{Heard, nothing, noting, raised}
 
 -- a call of the lock: its answer, and the lock then
 abbrev pub made : Call → Counted → calls.Answer × Counted

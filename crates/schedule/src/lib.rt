@@ -5,6 +5,7 @@
 mod answers;
 pub mod desk;
 pub mod desking;
+pub mod laws;
 mod obeying;
 mod passes;
 pub mod printing;

@@ -1,0 +1,84 @@
+-- The laws of whole schedules.
+use Rattle.std.proofs.Common.{◌≡◌, ℕ, suc, ◌+◌, ◌≤◌, cond, eqb, List, [], ◌∷◌, ◌++◌, length, Ok, Result, sym, refl, ap, ◌∙◌, inl, inr, arith}
+use Rattle.std.proofs.lemmas.Bool.{cases_Bool, le-leb, ne_eqb}
+use Rattle.std.proofs.lemmas.List.{append_assoc}
+use Rattle.script.specs.Calls.{arguments, blank, call, called, note, over, parse}
+use Rattle.script.specs.Cuts.{lines, onto}
+use Rattle.script.specs.declared.refusal.Refusal.TheVariants.{Length}
+use Rattle.schedule.specs.declared.refusal.Refusal.{Refusal}
+use Rattle.schedule.specs.Laws.{IsQuiet, Numbered, Prefix, QuietLines, Undisturbed, numbered, replies}
+use Rattle.schedule.specs.Listing.{reply_bytes, whole_refused}
+use Rattle.schedule.specs.Meaning.{Board, first_board, listed, listing, replied}
+use Rattle.schedule.specs.Replies.{Heard, nothing, noting}
+
+short_listing : (input : List ℕ) → length input ≤ 65536 → listing input ≡ listed 0 first_board (lines input)
+short_listing input few = ap (λ b. cond b (listed 0 first_board (lines input)) (whole_refused Length)) (le-leb (length input) 65536 few)
+
+listed_numbered : (n : ℕ) (b : Board) (ls : List (List ℕ)) → listed n b ls ≡ numbered n (replies b ls)
+listed_numbered n b [] = refl
+listed_numbered n b (l ∷ ls) = ap (λ z. reply_bytes (n + 1) (replied (parse l) b).0 ++ z) (listed_numbered (n + 1) (replied (parse l) b).1 ls)
+
+pub is_numbered : Numbered
+is_numbered input few = short_listing input few ∙ listed_numbered 0 first_board (lines input)
+
+-- a cut at a line end cuts the lines
+
+onto_front : (x : ℕ) (l : List ℕ) (ls ms : List (List ℕ)) → onto x ((l ∷ ls) ++ ms) ≡ onto x (l ∷ ls) ++ ms
+onto_front x l ls ms = refl
+
+some_line : (cut : List ℕ) → (l : List ℕ) × (ls : List (List ℕ)) × (lines (cut ++ 10 ∷ []) ≡ l ∷ ls)
+some_line [] = ([], [], refl)
+some_line (x ∷ cut) =
+    let (l, ls, is) = some_line cut in
+    elim (cases_Bool (eqb x 10)) [
+      | inl end ↦ ([], lines (cut ++ 10 ∷ []), ap (λ b. cond b ([] ∷ lines (cut ++ 10 ∷ [])) (onto x (lines (cut ++ 10 ∷ [])))) end)
+      | inr on ↦ (x ∷ l, ls, ap (λ b. cond b ([] ∷ lines (cut ++ 10 ∷ [])) (onto x (lines (cut ++ 10 ∷ [])))) on ∙ ap (onto x) is)
+    ]
+
+cut_lines : (cut more : List ℕ) → lines (cut ++ 10 ∷ more) ≡ lines (cut ++ 10 ∷ []) ++ lines more
+cut_lines [] more = refl
+cut_lines (x ∷ cut) more =
+    let (l, ls, is) = some_line cut in
+    let a = lines (cut ++ 10 ∷ []) in
+    let c = lines (cut ++ 10 ∷ more) in
+    let later : c ≡ a ++ lines more = cut_lines cut more in
+    elim (cases_Bool (eqb x 10)) [
+      | inl end ↦ ap (λ b. cond b ([] ∷ c) (onto x c)) end ∙ ap (λ z. [] ∷ z) later ∙ ap (λ z. z ++ lines more) (sym (ap (λ b. cond b ([] ∷ a) (onto x a)) end))
+      | inr on ↦
+          ap (λ b. cond b ([] ∷ c) (onto x c)) on ∙ ap (onto x) (later ∙ ap (λ z. z ++ lines more) is) ∙ ap (λ z. z ++ lines more) (sym (ap (onto x) is)) ∙ ap (λ z. z ++ lines more) (sym (ap (λ b. cond b ([] ∷ a) (onto x a)) on))
+    ]
+
+listed_parts : (n : ℕ) (b : Board) (ls ms : List (List ℕ)) → (rest : List ℕ) × (listed n b (ls ++ ms) ≡ listed n b ls ++ rest)
+listed_parts n b [] ms = (listed n b ms, refl)
+listed_parts n b (l ∷ ls) ms =
+    let (rest, is) = listed_parts (n + 1) (replied (parse l) b).1 ls ms in
+    let own = reply_bytes (n + 1) (replied (parse l) b).0 in
+    (rest, ap (λ z. own ++ z) is ∙ sym (append_assoc own (listed (n + 1) (replied (parse l) b).1 ls) rest))
+
+length_more : (xs ys : List ℕ) → length (xs ++ 10 ∷ []) ≤ length (xs ++ 10 ∷ ys)
+length_more [] ys = omega arith
+length_more (x ∷ xs) ys = omega (arith, length_more xs ys)
+
+pub is_prefix : Prefix
+is_prefix cut more few =
+    let (rest, is) = listed_parts 0 first_board (lines (cut ++ 10 ∷ [])) (lines more) in
+    (rest, short_listing (cut ++ 10 ∷ more) few ∙ ap (listed 0 first_board) (cut_lines cut more) ∙ is ∙ ap (λ z. z ++ rest) (sym (short_listing (cut ++ 10 ∷ []) (omega (arith, length_more cut more)))))
+
+note_read : (text : List ℕ) → parse (35 ∷ text) ≡ Ok (note (35 ∷ text))
+note_read text =
+    let others = cond (eqb 35 35) (Ok (note (35 ∷ text))) (over call (called 35 (arguments (35 ∷ text)))) in
+    ap (λ b. cond b (Ok blank) others) (ne_eqb (length (35 ∷ text)) 0 (λ e. omega arith))
+
+pub are_quiet : QuietLines
+are_quiet = record { empty = (Ok nothing, λ b. refl); noted = λ text. (Ok (noting (35 ∷ text)), λ b. ap (λ s. replied s b) (note_read text)) }
+
+undisturbed_at : (b : Board) (before after : List (List ℕ)) (l : List ℕ) (r : Result Heard Refusal) → IsQuiet l r →
+    (first later : List (Result Heard Refusal)) × (replies b (before ++ after) ≡ first ++ later) × (replies b (before ++ l ∷ after) ≡ first ++ r ∷ later) × (length first ≡ length before)
+undisturbed_at b [] after l r quiet = ([], replies b after, refl, ap (λ (z : Result Heard Refusal × Board). z.0 ∷ replies z.1 after) (quiet b), refl)
+undisturbed_at b (x ∷ before) after l r quiet =
+    let (first, later, without, with, count) = undisturbed_at (replied (parse x) b).1 before after l r quiet in
+    let own = (replied (parse x) b).0 in
+    (own ∷ first, later, ap (λ z. own ∷ z) without, ap (λ z. own ∷ z) with, ap suc count)
+
+pub are_undisturbed : Undisturbed
+are_undisturbed before after l r quiet = undisturbed_at first_board before after l r quiet

@@ -1,0 +1,41 @@
+-- Laws of whole schedules.
+use Rattle.std.specs.Prelude.{◌≡◌, ℕ, ◌+◌, ◌≤◌, List, [], ◌∷◌, ◌++◌, length, Result}
+use Rattle.script.specs.Calls.{parse}
+use Rattle.script.specs.Cuts.{lines}
+use Rattle.schedule.specs.declared.refusal.Refusal.{Refusal}
+use Rattle.schedule.specs.Listing.{reply_bytes}
+use Rattle.schedule.specs.Meaning.{Board, first_board, listing, replied}
+use Rattle.schedule.specs.Replies.{Heard}
+
+-- what each line comes to
+abbrev pub replies : Board → List (List ℕ) → List (Result Heard Refusal)
+replies b [] = []
+replies b (l ∷ ls) = (replied (parse l) b).0 ∷ replies (replied (parse l) b).1 ls
+
+-- the bytes of these, where n lines went before
+abbrev pub numbered : ℕ → List (Result Heard Refusal) → List ℕ
+numbered n [] = []
+numbered n (r ∷ rs) = reply_bytes (n + 1) r ++ numbered (n + 1) rs
+
+-- the listing is what its lines come to, with their numbers
+abbrev pub Numbered : Type 0
+Numbered = (input : List ℕ) → length input ≤ 65536 → listing input ≡ numbered 0 (replies first_board (lines input))
+
+-- the listing of a schedule cut at a line end is how the listing of the whole begins
+abbrev pub Prefix : Type 0
+Prefix = (cut more : List ℕ) → length (cut ++ 10 ∷ more) ≤ 65536 → (rest : List ℕ) × (listing (cut ++ 10 ∷ more) ≡ listing (cut ++ 10 ∷ []) ++ rest)
+
+-- a line that is blank or a note
+abbrev pub IsQuiet : List ℕ → Result Heard Refusal → Type 0
+IsQuiet l r = (b : Board) → replied (parse l) b ≡ (r, b)
+
+-- a blank line and a note are quiet
+pub record QuietLines : Type 0 where
+  pub empty : (r : Result Heard Refusal) × IsQuiet [] r
+  pub noted : (text : List ℕ) → (r : Result Heard Refusal) × IsQuiet (35 ∷ text) r
+
+-- a quiet line changes no other answer: those before and after it are as they would be without it
+abbrev pub Undisturbed : Type 0
+Undisturbed =
+    (before after : List (List ℕ)) (l : List ℕ) (r : Result Heard Refusal) → IsQuiet l r →
+    (first later : List (Result Heard Refusal)) × (replies first_board (before ++ after) ≡ first ++ later) × (replies first_board (before ++ l ∷ after) ≡ first ++ r ∷ later) × (length first ≡ length before)
