@@ -79,7 +79,8 @@ def call_inside(pick, task, place, leaving, put):
     if pick.chance(0.4):
         return f"R {task} {pick.below(16)}"
     if put and place == WRITING and pick.chance(0.4):
-        return f"P {task} {pick.below(16)} {1 + pick.below(1000000)}"
+        thickness = pick.of([0, 1000001]) if pick.chance(0.1) else 1 + pick.below(1000000)
+        return f"P {task} {pick.below(17)} {thickness}"
     if pick.chance(0.5 if leaving else 0.3):
         return f"L {task}"
     return f"D {task}" if place == WRITING else f"U {task}"
