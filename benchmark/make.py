@@ -2,11 +2,11 @@
 """Makes the three schedules that benchmark/run.sh measures, each just below 65,536 bytes, and the first half of
 each by its lines.
 
-    make.py PLAIN FOLDER [--put]
+    make.py PLAIN FOLDER
 
 PLAIN is the built benchmark/plain.cpp, which tells where each task of the workload is. FOLDER gets workload.txt, refusals.txt
-and notes.txt, and workload-half.txt and so on. --put has the letter P among the calls; without it the schedules
-have no line that begins with P. The same seeds give the same bytes on every machine.
+and notes.txt, and workload-half.txt and so on.
+The same seeds give the same bytes on every machine.
 """
 import random
 import subprocess
@@ -74,11 +74,11 @@ def look(plain, text, places, count):
             places[int(line.split(" ")[1])] = words[2]
 
 
-def call_inside(pick, task, place, leaving, put):
+def call_inside(pick, task, place, leaving):
     """A call of a task that is inside with this right."""
     if pick.chance(0.4):
         return f"R {task} {pick.below(16)}"
-    if put and place == WRITING and pick.chance(0.4):
+    if place == WRITING and pick.chance(0.4):
         thickness = pick.of([0, 1000001]) if pick.chance(0.1) else 1 + pick.below(1000000)
         return f"P {task} {pick.below(17)} {thickness}"
     if pick.chance(0.5 if leaving else 0.3):
@@ -86,16 +86,16 @@ def call_inside(pick, task, place, leaving, put):
     return f"D {task}" if place == WRITING else f"U {task}"
 
 
-def next_call(pick, task, place, leaving, put):
+def next_call(pick, task, place, leaving):
     """What a task does in a round, if anything. Those inside stay a while, and those that wait look only now and then."""
     if place in (READING, WRITING):
-        return call_inside(pick, task, place, leaving, put) if pick.chance(0.5) else None
+        return call_inside(pick, task, place, leaving) if pick.chance(0.5) else None
     if place in WAITING and pick.chance(0.95):
         return None
     return f"S {task}"
 
 
-def workload(plain, put):
+def workload(plain):
     """64 tasks, every third a writer. Rounds go over the tasks in a new order each, and a task makes at most one
     call in a round, so that its place from the round before still holds. How many tasks are on their way or inside changes
     every 32 rounds: with few of them writers come in and upgrades are granted, with many they wait and are turned down."""
@@ -112,7 +112,7 @@ def workload(plain, put):
         before = len(text.lines)
         for task in pick.shuffled(range(1, TASKS + 1)):
             if places[task] != REST:
-                line = next_call(pick, task, places[task], busy > crowd, put)
+                line = next_call(pick, task, places[task], busy > crowd)
             elif busy < crowd:
                 busy += 1
                 line = f"E {task}"
@@ -132,7 +132,7 @@ BAD_OPENINGS = ["O", "O ", "O w", "O w r", "O w r ", "O x r RW", "O w x RW", "O 
 LETTERS = "ESUDL"
 
 
-def bad_text(pick, put):
+def bad_text(pick):
     """A line that its text refuses: 40, 41 or 42."""
     letter = pick.of(LETTERS)
     kind = pick.below(8)
@@ -150,12 +150,11 @@ def bad_text(pick, put):
         return f"R {pick.of(HUGE)} {pick.of(HUGE)}"
     if kind == 6:
         return pick.of(BAD_OPENINGS)
-    if put:
-        return pick.of(["P 1 2", "P 1 2 03", f"P 1 2 {pick.of(HUGE)}", "P", "P 1 2 3 4"])
+    return pick.of(["P 1 2", "P 1 2 03", f"P 1 2 {pick.of(HUGE)}", "P", "P 1 2 3 4"])
     return letter + " " + pick.of(HUGE) + " " + pick.of(HUGE)
 
 
-def by_lock(pick, put):
+def by_lock(pick):
     """A call that the opened lock refuses: tasks 1 and 2 are inside with the reading right, 3 is at line 0.2 and 4 at rest."""
     row = pick.below(16)
     lines = [
@@ -163,17 +162,16 @@ def by_lock(pick, put):
         "E 1", "E 2", "E 3", "S 1", "S 2", "S 4", "U 3", "D 4", "L 3", "L 4", f"R 3 {row}", f"R 4 {row}",
         "D 1", "D 2", f"R 1 {16 + pick.below(1000)}", "R 2 4294967295", "U 1",
     ]
-    if put:
-        lines += [f"P 1 {row} 4200", "P 2 16 0", "P 3 0 1", "P 5 1 1", f"P 4 {row} 1000001"]
+    lines += [f"P 1 {row} 4200", "P 2 16 0", "P 3 0 1", "P 5 1 1", f"P 4 {row} 1000001"]
     return pick.of(lines)
 
 
-def refusals(put):
+def refusals():
     pick = Choices(2)
     text = Text()
     # a closed lock: 10, the text of lines, and openings that leave nothing behind: 12, 13, 14
     for _ in range(600):
-        text.add(pick.of(["E 1", "S 99", "U 0", "D 1", "L 4294967295", "R 1 1"]) if pick.chance(0.5) else bad_text(pick, put))
+        text.add(pick.of(["E 1", "S 99", "U 0", "D 1", "L 4294967295", "R 1 1"]) if pick.chance(0.5) else bad_text(pick))
         if pick.chance(0.1):
             text.add(pick.of(["O w r " + "R" * 65, "O w m RWX", "O p r " + "W" * 16, "O p m R\r"]))
     text.add("O p m RRWR")
@@ -182,7 +180,7 @@ def refusals(put):
     # beside another reader each upgrade is obeyed and turned down at once; from the one after 1,000 on it is 29
     for _ in range(1000):
         text.add("U 1")
-    while text.add(bad_text(pick, put) if pick.chance(0.5) else by_lock(pick, put)):
+    while text.add(bad_text(pick) if pick.chance(0.5) else by_lock(pick)):
         pass
     return text
 
@@ -208,8 +206,7 @@ def notes():
 
 def main():
     plain, folder = sys.argv[1:3]
-    put = "--put" in sys.argv[3:]
-    schedules = {"workload": workload(plain, put), "refusals": refusals(put), "notes": notes()}
+    schedules = {"workload": workload(plain), "refusals": refusals(), "notes": notes()}
     for name, text in schedules.items():
         with open(f"{folder}/{name}.txt", "wb") as whole, open(f"{folder}/{name}-half.txt", "wb") as half:
             whole.write(text.bytes())

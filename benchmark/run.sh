@@ -2,19 +2,12 @@
 # Measures ribrun beside plain.cpp: builds both, checks that they print the same bytes, counts the instructions of
 # each over three schedules and over the first halves of these, and prints two tables.
 #
-#     benchmark/run.sh [--put]
+#     benchmark/run.sh
 #
-# --put has the letter P in the schedules, for a ribrun that knows it.
 # The exit status is 1 where the bytes differ or a tool is missing.
 set -euo pipefail
 cd "$(dirname "$0")/.."
 
-put=
-case "${1:-}" in
-    "") ;;
-    --put) put=--put ;;
-    *) sed -n '2,9s/^# \{0,1\}//p' "$0"; exit 2 ;;
-esac
 for tool in rt g++ python3; do
     command -v "$tool" > /dev/null || { echo "$tool is missing"; exit 1; }
 done
@@ -25,7 +18,7 @@ ribrun=crates/ribrun/out/ribrun
 mkdir -p "$out"
 g++ -std=c++17 -O2 -Wall -Wextra -o "$plain" benchmark/plain.cpp
 (cd crates/ribrun && rt run < ../../examples/lone-reader.txt) > "$out/listing" 2> "$out/built" || { tail -n 5 "$out/built"; exit 1; }
-python3 benchmark/make.py "$plain" "$out" $put
+python3 benchmark/make.py "$plain" "$out"
 : > "$out/empty.txt"
 # one byte too many: 43
 python3 -c 'print("#" + "x" * 65535)' > "$out/too-long.txt"
