@@ -22,6 +22,7 @@ pub enum Place {
 
 impl Place {
     // Its digits, if it has any, are written into `digits`.
+    #[inline(always)]
     fn text<'a>(self, digits: &'a mut Buffer) -> &'a str
         ensures tells { result.now ≡ placed self }
         ensures short { length result.now ≤ 10 }

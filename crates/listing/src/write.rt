@@ -10,6 +10,7 @@ use arrayvec::ArrayString;
 use itoa::Buffer;
 
 // What stands before the text of the line `number`.
+#[inline(always)]
 fn heading(number: u32) -> ArrayString<11>
     ensures { result.bytes ≡ decimal number ++ space }
 {
@@ -20,6 +21,7 @@ fn heading(number: u32) -> ArrayString<11>
 }
 
 // Writes `head`, `text` and the end of a line, and tells how many bytes these are.
+#[inline(always)]
 fn put(out: &mut [u8], head: &[u8], text: &[u8]) -> Option<usize>
     ensures { Put out.old (head.now ++ text.now ++ newline) result out.new }
 {
@@ -38,6 +40,7 @@ fn put(out: &mut [u8], head: &[u8], text: &[u8]) -> Option<usize>
 // Writes the line `number` of a listing, for a note, and tells how many bytes it
 // has, at most 12 more than the note; nothing where `out` has less room. (`out` and `number` come side
 // by side, here and in what calls this: the buffer is lent for one line, and a struct around both would hold the loan.)
+#[inline(always)]
 pub fn put_note(out: &mut [u8], number: u32, text: &[u8]) -> Option<usize>
     ensures line { Put out.old (noted number text.now) result out.new }
     ensures short { length (noted number text.now) ≤ 12 + length text.now }

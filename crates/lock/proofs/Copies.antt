@@ -1,5 +1,5 @@
 -- Which copies a task holds, read from the masks of the cache layer, and what a deed makes of them and charges in units.
-use Rattle.std.proofs.Common.{◌≡◌, ℕ, ◌-◌, ◌*◌, ◌/◌, ◌^◌, ◌<◌, ◌≤◌, true, false, cond, eqb, ◌≢◌, List, length, get_or, set, refl, sym, ap, ◌∙◌, inl, inr, arith}
+use Rattle.std.proofs.Common.{◌≡◌, ℕ, ◌-◌, ◌*◌, ◌/◌, ◌^◌, ◌<◌, ◌≤◌, true, false, cond, eqb, ◌≢◌, List, length, get_or, set, refl, sym, ap, ◌∙◌, inl, inr, arith, [], ◌∷◌}
 use native.Mathlib.Nat.{zero-div}
 use Rattle.std.proofs.lemmas.Bool.{cases_eq, cases_Bool, eq-eqb, ne_eqb}
 use Rattle.std.proofs.lemmas.List.{get_or-set_same, get_or-set_other, length-set}
@@ -9,6 +9,7 @@ use Rattle.sets.proofs.Put.{joins}
 use Rattle.memory.specs.declared.operation.Operation.{Operation}
 use Rattle.memory.specs.declared.operation.Operation.TheVariants.{Read, Write, Add, Swap}
 use Rattle.memory.specs.Calls.{Doing, Kept}
+use Rattle.memory.specs.Cells.{zeros}
 use Rattle.memory.specs.Operations.{cell_of}
 use Rattle.cache.specs.Copies.{Cached, Empties}
 use Rattle.lines.specs.declared.deed.Deed.{Deed}
@@ -18,7 +19,9 @@ use Rattle.lines.specs.declared.place.Line.TheVariants.{L0p1, L0p2, L2, L10, L19
 use Rattle.lines.specs.declared.track.Track.{Track}
 use Rattle.lines.specs.Lines.{deed_of}
 use Rattle.calls.specs.Steps.{Shares}
+use Rattle.calls.specs.Opening.{Wrote, opening_writes}
 use Rattle.lock.specs.Counted.{CostsOne, masks_after, unit_share}
+use Rattle.lock.proofs.Opened.{seven_of}
 use Rattle.lock.proofs.Costs.{Units, charge, other_copies, own_copies, purse}
 
 -- 1 where task t holds a copy of cell k, else 0
@@ -179,3 +182,16 @@ module _ {M : Type 0} (does : Doing M) (masks : M → List ℕ) (law : (m n : M)
   deed_exact First m n t share e = untouched_exact m n share e
   deed_exact Quit m n t share e = untouched_exact m n share e
   deed_exact Nothing m n t share e = untouched_exact m n share e
+
+-- Opening writes every cell, so nobody holds a copy then: over any memory that leaves the masks so.
+module _ {M : Type 0} (does : Doing M) (masks : M → List ℕ) (leaves : (m n : M) (t : ℕ) (op : Operation) (share : ℕ) → does m t op share n → masks n ≡ masks_after (Touch op) t (masks m)) where
+  abbrev wiped : List Operation → List ℕ → List ℕ
+  wiped [] ms = ms
+  wiped (op ∷ ops) ms = wiped ops (masks_after (Touch op) 1 ms)
+
+  wrote_masks : (ops : List Operation) (m n : M) → Wrote does m ops n → masks n ≡ wiped ops (masks m)
+  wrote_masks [] m n w = ap masks w
+  wrote_masks (op ∷ ops) m n (k, share, d, w) = wrote_masks ops k n w ∙ ap (wiped ops) (leaves m k 1 op share d)
+
+  pub opened_masks : (m n : M) → length (masks m) ≡ 7 → Wrote does m opening_writes n → masks n ≡ zeros
+  opened_masks m n seven w = wrote_masks opening_writes m n w ∙ ap (wiped opening_writes) (seven_of (masks m) seven)

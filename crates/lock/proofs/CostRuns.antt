@@ -28,7 +28,7 @@ use Rattle.lock.specs.Promises.{CostBound, Starts}
 use Rattle.lock.specs.Runs.{Made, RunWhile}
 use Rattle.lock.proofs.Allowed.{allowed}
 use Rattle.lock.specs.Counted.{masks_after, unit_share}
-use Rattle.lock.proofs.Copies.{ChargedByUnits, deed_charged, flag, length-masks_after, purse_other, purse_own, touches_known, unit_share-charge}
+use Rattle.lock.proofs.Copies.{ChargedByUnits, deed_charged, flag, length-masks_after, opened_masks, purse_other, purse_own, touches_known, unit_share-charge}
 use Rattle.lock.proofs.Costs.{Paid, Units, account_before, at_most_20, charge, other_copies, others_kept, own_copies, payer_kept, purse}
 use Rattle.lock.proofs.Costs.{charged as charged_units}
 use Rattle.lock.proofs.Facts.{Before, Cells, Task, seen, seen_cells}
@@ -222,18 +222,9 @@ module _ {M : Type 0} (does : Doing M) (masks : M → List ℕ) (top : M → ℕ
       let few : (b.costed.units i).cost ≤ 20 + 5 * r.account.u + 2 * r.account.g = omega (arith, paid.bound, small, back.u, back.g) in
       omega (arith, back.cost, times_less ceiling _ _ few)
 
-  -- opening writes every cell, so nobody holds a copy then
-
-  abbrev wiped : List Operation → List ℕ → List ℕ
-  wiped [] ms = ms
-  wiped (op ∷ ops) ms = wiped ops (masks_after (Touch op) 1 ms)
-
-  wrote_masks : (ops : List Operation) (m n : M) → top m ≡ ceiling → Wrote does m ops n → (masks n ≡ wiped ops (masks m)) × (top n ≡ ceiling)
-  wrote_masks [] m n e w = (ap masks w, ap top w ∙ e)
-  wrote_masks (op ∷ ops) m n e (k, share, d, w) =
-      let c = law m k 1 op share d in
-      let r = wrote_masks ops k n (c.same_ceiling ∙ e) w in
-      (r.0 ∙ ap (wiped ops) c.left, r.1)
+  wrote_top : (ops : List Operation) (m n : M) → Wrote does m ops n → top n ≡ top m
+  wrote_top [] m n w = ap top w
+  wrote_top (op ∷ ops) m n (k, share, d, w) = wrote_top ops k n w ∙ (law m k 1 op share d).same_ceiling
 
   first_costed : (s : State) (ms : List ℕ) (roles : List ℕ) → Starts roles s → ms ≡ zeros → Costed ceiling s ms
   first_costed s ms roles starts e =
@@ -246,8 +237,8 @@ module _ {M : Type 0} (does : Doing M) (masks : M → List ℕ) (top : M → ℕ
 
   pub opened_bounded : (s : State) (m n : M) (roles : List ℕ) → Starts roles s → Able limit s → top m ≡ ceiling → length (masks m) ≡ 7 → Wrote does m opening_writes n → Bounded s n
   opened_bounded s m n roles starts g e seven w =
-      let r = wrote_masks opening_writes m n e w in
-      record { able = g; costed = first_costed s (masks n) roles starts (r.0 ∙ ap (wiped opening_writes) (seven_of (masks m) seven)); same = r.1 }
+      let none = opened_masks does masks (λ m n t op share d. (law m n t op share d).left) m n seven w in
+      record { able = g; costed = first_costed s (masks n) roles starts none; same = wrote_top opening_writes m n w ∙ e }
 
 module _ {M : Type 0} (does : Doing M) (masks : M → List ℕ) (top : M → ℕ)
     (law : (m n : M) (t : ℕ) (op : Operation) (share : ℕ) → does m t op share n → ChargedByUnits (Touch op) t (top m) (masks m) share (top n) (masks n)) (limit : ℕ) where

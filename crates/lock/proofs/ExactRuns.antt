@@ -1,21 +1,19 @@
 -- Where each operation below the cache layer costs 1, runs cost what the counted calls say.
-use Rattle.std.proofs.Common.{◌≡◌, ℕ, List, [], ◌∷◌, length, map, IfOk, Some, None, Option, Result, sym, ap, ◌∙◌, subst}
+use Rattle.std.proofs.Common.{◌≡◌, ℕ, List, [], ◌∷◌, map, IfOk, Some, None, Option, Result, sym, ap, ◌∙◌, subst}
 use Rattle.memory.specs.declared.operation.Operation.{Operation}
 use Rattle.memory.specs.Calls.{Doing}
-use Rattle.memory.specs.Cells.{zeros}
 use Rattle.lines.specs.declared.deed.Deed.TheVariants.{Touch}
 use Rattle.lines.specs.Lines.{next_deed}
 use Rattle.calls.specs.declared.refusal.Refusal.{Refusal}
-use Rattle.calls.specs.Opening.{Opens, Wrote, open_refusal, opening_writes}
+use Rattle.calls.specs.Opening.{Opens, open_refusal}
 use Rattle.calls.specs.States.{State}
 use Rattle.calls.specs.Steps.{Answer, Call, Calls, Carried, LineShares, Verdict, after_deed, at_once, judge, line, lined, refuse}
-use Rattle.lock.specs.Counted.{Counted, counted, counted_run, masks_after, unit_share}
+use Rattle.lock.specs.Counted.{Counted, counted, counted_run, unit_share}
 use Rattle.lock.specs.Promises.{ExactCosts}
 use Rattle.lock.specs.Runs.{Made, RunWhile}
 use Rattle.lock.proofs.Allowed.{allowed}
 use Rattle.lock.proofs.Copies.{ExactUnits, deed_exact}
 use Rattle.lock.proofs.Meant.{Meant, meant}
-use Rattle.lock.proofs.Opened.{seven_of}
 use Rattle.lock.proofs.Promised.{able}
 use Rattle.lock.proofs.Runs.{Able, call_able}
 
@@ -42,19 +40,6 @@ module _ {M : Type 0} (does : Doing M) (masks : M → List ℕ) (law : (m n : M)
   run_exact P [] s z m n g (p, same, k) = λ i. record { state = same i; masks = masks (k i) }
   run_exact P (e ∷ es) s z m n g (p, (y, k, call, run)) =
       run_exact P es y z k n (call_able does limit e.call s y m k e.answer g call) run ∙ ap (counted_run (map (λ (e : Made). e.call) es)) (call_exact e.call s y m k e.answer g call)
-
-  -- opening writes every cell, so nobody holds a copy then
-
-  abbrev wiped : List Operation → List ℕ → List ℕ
-  wiped [] ms = ms
-  wiped (op ∷ ops) ms = wiped ops (masks_after (Touch op) 1 ms)
-
-  wrote_masks : (ops : List Operation) (m n : M) → Wrote does m ops n → masks n ≡ wiped ops (masks m)
-  wrote_masks [] m n w = ap masks w
-  wrote_masks (op ∷ ops) m n (k, share, d, w) = wrote_masks ops k n w ∙ ap (wiped ops) (law m k 1 op share d).left
-
-  pub opened_copies : (m n : M) → length (masks m) ≡ 7 → Wrote does m opening_writes n → masks n ≡ zeros
-  opened_copies m n seven w = wrote_masks opening_writes m n w ∙ ap (wiped opening_writes) (seven_of (masks m) seven)
 
   pub opened_exact : (ceiling : ℕ) (o : Option Refusal) (s z : State) (m n : M) (roles : List ℕ) (r : Result (Unit {0}) Refusal) → open_refusal limit ceiling s roles ≡ o → Opens does o s m roles r z n → IfOk r (λ _. ExactCosts does limit z n masks)
   opened_exact ceiling None s z m n roles r none (ok, w, is) =

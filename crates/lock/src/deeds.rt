@@ -76,6 +76,7 @@ pub(crate) fn perform<M: Memory, Q: Queue>(
 }
 
 // The deeds on a cell.
+#[inline(always)]
 fn touch<M: Memory>(memory: &mut M, task: u32, operation: Operation) -> Result<Told, Refusal>
     ensures { Touched M.Memory memory.old task operation result memory.new }
 {

@@ -31,6 +31,7 @@ fn arrive(account: &mut Account, place: Place)
 
 impl ReadyTask {
     // The next line was done, and this is what was told of it.
+    #[inline(always)]
     pub(crate) fn settle(self, told: Told) -> Task
         ensures number { result.number ≡ self.task.number }
         ensures state { result.state ≡ settled self.task.state told.found told.share }

@@ -18,8 +18,8 @@ use Rattle.lock.specs.Answers.{said}
 use Rattle.lock.specs.Counted.{Counted, answer_of, counted}
 use Rattle.lock.specs.Promises.{Obeyed}
 use Rattle.lock.specs.View.{Does, view}
-use Rattle.lock.proofs.Copies.{cached_exact}
-use Rattle.lock.proofs.ExactRuns.{call_exact, opened_copies}
+use Rattle.lock.proofs.Copies.{cached_exact, opened_masks}
+use Rattle.lock.proofs.ExactRuns.{call_exact}
 use Rattle.lock.proofs.Promised.{able}
 use Rattle.lock.proofs.Runs.{Able, call_able, call_kept}
 use Rattle.script.specs.Calls.{Ask, advance, begin, downgrade, leave, opening, put, read, upgrade}
@@ -124,7 +124,7 @@ module _ {B Q : Type 0} (mem : MemoryGhosts B) (que : QueueGhosts Q) (limit : �
           let layer = cached mem in
           let masks_of : Cache B → List ℕ = λ m. m.copies.masks in
           let end : view layer que l' ≡ opened_to roles x.state = left ∙ ap (opened_to roles) f.state in
-          let empty = opened_copies layer.does masks_of (λ m n t op share d. cached_exact mem.does unit.one m.below n.below m.copies.masks n.copies.masks t op share d) mem.limit l.memory l'.memory seven w in
+          let empty = opened_masks layer.does masks_of (λ m n t op share d. (cached_exact mem.does unit.one m.below n.below m.copies.masks n.copies.masks t op share d).left) l.memory l'.memory seven w in
           (is ∙ ok_telling o (answer.Opened (length roles)) ok, record { state = end; masks = empty }, subst (Able mem.limit) end (able mem.limit (mem.top l.memory.below) (view layer que l) (view layer que l') roles none left))
       opened_as (Some e) some (err, same, k) =
           (is ∙ ap (λ p. telling p (answer.Opened (length roles))) err, record { state = same ∙ f.state; masks = ap (λ (m : Cache B). m.copies.masks) k ∙ f.masks })
