@@ -18,7 +18,7 @@ use thiserror::Error;
 // The memory and the queue are named here and where the lock is made, and nowhere else.
 type Wall<'a> = Lock<'a, Cache<Packed>, Ring>;
 
-// how many lines a task does on its way before it is given up
+// fewer lines than these bring a task inside or to rest, unless others keep it waiting
 const MOST: u32 = 20;
 
 #[derive(Debug, Drop, Error)]
@@ -98,7 +98,7 @@ fn run(rt: &impl Print, ribs: &mut [u32]) -> Done {
     leave::<Reading>(rt, wall, 1)?;
     leave::<Reading>(rt, wall, 3)?;
 
-    // Task 2 is alone now, and so is granted its upgrade. Turned down it could not measure: 26.
+    // Task 2 is alone now, and so its upgrade is granted. Turned down it would only read, and `measure` be refused: 26.
     passes::upgrade(wall, 2)?;
     advance(rt, wall, 2, "upgrades")?;
     let back = passes::measure(wall, 2, &[(1, 1275)], 1)?;

@@ -1,5 +1,6 @@
 // The calls that need a pass. A pass cannot be dropped: whoever takes one lays it back or spends it, on every path, and
 // where a call that spends it is refused, it comes back. Code to which a pass is only lent may use `?` as it likes.
+// That a pass is out (`pass_refusal .. ≡ None`) is shown where it is laid back, by the facts of proofs/Out.antt.
 ghost use Rattle.std.specs.Prelude.{◌≡◌, None};
 ghost use Rattle.lines.specs.declared.place.Right.TheVariants.{Writing as writing};
 ghost use Rattle.calls.specs.Questions.{pass_refusal};
