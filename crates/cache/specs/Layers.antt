@@ -5,6 +5,7 @@ use Rattle.cache.specs.Copies.{Cached}
 
 abbrev pub cached : {B : Type 0} → Ghosts B → Ghosts (Cache B)
 cached mem = record {
+  LIMIT = mem.LIMIT;
   limit = mem.limit;
   cells = λ s. mem.cells s.below;
   top = λ s. mem.top s.below;

@@ -45,6 +45,8 @@ impl<M: Memory> Cache<M> {
 impl<M: Memory> Memory for Cache<M> {
     const LIMIT: u32 = M::LIMIT;
 
+    ghost LIMIT = { M.Memory.LIMIT };
+
     ghost limit = { M.Memory.limit };
 
     ghost cells = { λ s. M.Memory.cells s.below };
@@ -52,6 +54,8 @@ impl<M: Memory> Memory for Cache<M> {
     ghost top = { λ s. M.Memory.top s.below };
 
     ghost does = { λ s task op share t. Cached M.Memory.does s.below s.copies.masks task op share t.below t.copies.masks };
+
+    ghost one_limit = { M.Memory.one_limit };
 
     ghost seven = { Prim.search rules };
 

@@ -15,4 +15,4 @@ EachAnswers {M} mem = (c : Call) (s : State) (m : M) → s.cells ≡ mem.cells m
 
 -- seven numbers alone, as a memory whose operations cost 1: the least that a memory can be
 abbrev pub numbers_alone : ℕ → Ghosts (List ℕ)
-numbers_alone limit = record { limit = limit; cells = λ ns. ns; top = λ ns. 1; does = λ ns t op share ms. (ms ≡ after op ns) × (share ≡ 1) }
+numbers_alone limit = record { LIMIT = limit; limit = limit; cells = λ ns. ns; top = λ ns. 1; does = λ ns t op share ms. (ms ≡ after op ns) × (share ≡ 1) }

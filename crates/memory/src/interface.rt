@@ -18,6 +18,9 @@ pub trait Memory {
     // the largest number that a cell holds
     const LIMIT: u32;
 
+    // the same: the constant is proved equal to the ghost member of its name
+    ghost LIMIT: { ℕ };
+
     // the same, as clauses name it
     ghost limit: { ℕ };
 
@@ -63,6 +66,8 @@ pub trait Memory {
         new: u32,
     ) -> Result<Reply<bool>, Refusal>
         ensures { Called limit cells top does self.old self.new task (swapping cell expected new) (slice_index (cells self.old) cell == expected) result };
+
+    ghost one_limit: { LIMIT ≡ limit };
 
     ghost seven: { (s : Self) → length (cells s) ≡ 7 };
 

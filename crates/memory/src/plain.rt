@@ -11,6 +11,8 @@ use crate::store::Store;
 impl<S: Store> Memory for S {
     const LIMIT: u32 = S::LIMIT;
 
+    ghost LIMIT = { S.LIMIT };
+
     ghost limit = { S.LIMIT };
 
     ghost cells = { S.numbers };
@@ -18,6 +20,8 @@ impl<S: Store> Memory for S {
     ghost top = { λ _. 1 };
 
     ghost does = { λ s _ op share t. (S.numbers t ≡ after op (S.numbers s)) × (share ≡ 1) };
+
+    ghost one_limit = { Prim.search rules };
 
     ghost seven = { S.seven };
 
