@@ -1,7 +1,7 @@
 -- The bytes of all lines, one after another, are the listing.
 use Rattle.std.proofs.Common.{◌≡◌, ℕ, ◌+◌, ◌-◌, cond, leb, List, [], ◌∷◌, ◌++◌, length, take, drop, Some, None, Ok, Option, sym, refl, ap, ◌∙◌, subst, inl, inr, arith}
 use Rattle.std.proofs.lemmas.Bool.{cases_Bool}
-use Rattle.std.proofs.lemmas.List.{append_assoc}
+use Rattle.std.proofs.lemmas.List.{append-nil, append_assoc}
 use Rattle.std.specs.Io.KnownBytes.{Appends}
 use Rattle.memory.specs.declared.interface.Memory.{Ghosts as MemoryGhosts}
 use Rattle.queue.specs.declared.interface.Queue.{Ghosts as QueueGhosts}
@@ -20,13 +20,9 @@ use Rattle.schedule.specs.Boards.{AtBoard, Follows, GivesListed, PairFollows, St
 use Rattle.schedule.specs.Listing.{Begun, Gives, GivesLine, left, reply_bytes, whole_refused}
 use Rattle.schedule.specs.Meaning.{Board, first_board, listed, listing, replied}
 
-all_of : (xs : List ℕ) → xs ≡ xs ++ []
-all_of [] = refl
-all_of (x ∷ xs) = ap (λ ys. x ∷ ys) (all_of xs)
-
 pub appends_none : (a : Option (List ℕ)) → Appends a a []
 appends_none None = tt
-appends_none (Some xs) = all_of xs
+appends_none (Some xs) = sym (append-nil xs)
 
 pub appends_more : (a b c : Option (List ℕ)) (xs ys : List ℕ) → Appends a b xs → Appends b c ys → Appends a c (xs ++ ys)
 appends_more None b c xs ys h k = tt
@@ -71,9 +67,6 @@ module _ {W P R K : Type 0} (w : MemoryGhosts W) (p : MemoryGhosts P) (r : Queue
     pub took : TookBytes d bytes count o
     pub next : Rest t later
 
-  none_some : {A : Type 0} {x : A} → ◌≡◌ {A = Option A} None (Some x) → ⊥
-  none_some h = let z : ◌≡◌ {A = ℕ} 0 1 = cc in omega arith
-
   pub turned : (s t : Schedule W P R K) (rest d o : List ℕ) (count : ℕ) → Rest s rest → Gives w p r k s d (Ok (Some count)) t o → ((b : Board) → Stands w p r k input s b → GivesListed w p r k input s d b (Ok (Some count)) t o) → Turn t rest d count o
   turned s t rest d o count (lines_left b stands) gives given =
       let (l, next, took, stands') = given b stands in
@@ -90,7 +83,7 @@ module _ {W P R K : Type 0} (w : MemoryGhosts W) (p : MemoryGhosts P) (r : Queue
       }
   turned s t rest d o count (untold why none) gives given =
       let whole = subst (λ u. GivesLine w p r k u s d (Some count) t o) why gives.1 in
-      record { bytes = whole_refused Length; later = []; parts = all_of (whole_refused Length); took = whole.bytes; next = all_told whole.told (ap lines_to_come whole.reader ∙ none) }
+      record { bytes = whole_refused Length; later = []; parts = sym (append-nil (whole_refused Length)); took = whole.bytes; next = all_told whole.told (ap lines_to_come whole.reader ∙ none) }
   turned s t rest d o count (all_told told none) gives given =
       let did = subst (λ u. GivesLine w p r k u s d (Some count) t o) told gives.1 in
       absurd (omega (arith, ap length (sym none ∙ did.next)))
@@ -137,5 +130,5 @@ module _ {W P R K : Type 0} (w : MemoryGhosts W) (p : MemoryGhosts P) (r : Queue
   pub printing_done : (s t : Schedule W P R K) (d o : List ℕ) (a b : Option (List ℕ)) → Printing a b s → Gives w p r k s d (Ok None) t o → Appends a b (listing input)
   printing_done s t d o a b pr gives =
       let none = nothing_left s t pr.rest d o pr.to_come gives in
-      let is : pr.printed ≡ listing input = all_of pr.printed ∙ ap (λ z. pr.printed ++ z) (sym none) ∙ pr.whole in
+      let is : pr.printed ≡ listing input = sym (append-nil pr.printed) ∙ ap (λ z. pr.printed ++ z) (sym none) ∙ pr.whole in
       subst (Appends a b) is pr.wrote

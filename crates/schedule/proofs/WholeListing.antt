@@ -23,9 +23,6 @@ is_numbered input few = short_listing input few ∙ listed_numbered 0 first_boar
 
 -- a cut at a line end cuts the lines
 
-onto_front : (x : ℕ) (l : List ℕ) (ls ms : List (List ℕ)) → onto x ((l ∷ ls) ++ ms) ≡ onto x (l ∷ ls) ++ ms
-onto_front x l ls ms = refl
-
 some_line : (cut : List ℕ) → (l : List ℕ) × (ls : List (List ℕ)) × (lines (cut ++ 10 ∷ []) ≡ l ∷ ls)
 some_line [] = ([], [], refl)
 some_line (x ∷ cut) =
