@@ -1,12 +1,10 @@
 -- What the sets of a queue tell of the list that they are kept for, and the sets after
 -- a join and after a quit.
-use Rattle.std.proofs.Common.{◌≡◌, ℕ, zero, suc, ◌+◌, ◌-◌, ◌^◌, ◌<◌, ◌≤◌, Bool, true, false, ◌&&◌, cond, eqb, List, [], ◌∷◌, ◌++◌, map, length, set, sym, refl, ap, ◌∙◌, subst, ⊎_elim, arith}
-use lib.Count.{ones}
+use Rattle.std.proofs.Common.{◌≡◌, ℕ, zero, suc, ◌+◌, ◌-◌, ◌^◌, ◌≤◌, Bool, true, false, ◌&&◌, cond, eqb, List, [], ◌∷◌, ◌++◌, map, length, set, sym, refl, ap, ◌∙◌, subst, ⊎_elim, arith}
 use Rattle.std.proofs.lemmas.Nat.{pow_pos}
 use Rattle.std.proofs.lemmas.Bool.{and_parts, and_from, or_left, or_from, eqb-true, eq-eqb, ne_eqb, cases_eq, cases_Bool, both_ways, and_left, and_right, false_from_ne_true}
 use Rattle.queue.specs.Waiting.{waits, oldest, rest}
 use Rattle.sets.specs.Sets.{holds, without, count_to, is_task, contained, put_in, taken_out}
-use Rattle.sets.proofs.Count.{ones_counted}
 use Rattle.sets.proofs.Known.{task_bounds, contained_task, put_in_task}
 use Rattle.sets.proofs.Put.{joined_sum}
 use Rattle.masks.specs.Sets.{set_before, waiting_of, nested, Kept}
@@ -46,12 +44,6 @@ count_tally set (suc n) = omega (arith, count_tally set n)
 
 pub counted_length : (sets : List ℕ) (who : ℕ) (xs : List ℕ) → Kept sets who xs → count_to 64 who ≡ length xs
 counted_length sets who xs k = count_tally who 64 ∙ tally_same (holds who) (waits xs) (λ t. kept_waits sets who xs t k) 64 ∙ tally_waiting xs k.0
-
-pub ones_tally : (m : ℕ) → m < 2 ^ 64 → ones m ≡ tally (holds m) 64
-ones_tally m fits = ones_counted m fits ∙ count_tally m 64
-
-pub kept_length : (sets : List ℕ) (who : ℕ) (xs : List ℕ) → Kept sets who xs → who < 2 ^ 64 → ones who ≡ length xs
-kept_length sets who xs k fits = ones_counted who fits ∙ counted_length sets who xs k
 
 kept_oldest : (sets : List ℕ) (who : ℕ) (xs : List ℕ) (t : ℕ) → Kept sets who xs → 1 ≤ t → (holds who t && eqb (set_before sets t) 0) ≡ oldest xs t
 kept_oldest sets who [] t k low = and_left (holds who t) (eqb (set_before sets t) 0) (kept_waits sets who [] t k low)
