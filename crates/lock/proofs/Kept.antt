@@ -1,5 +1,5 @@
 -- The records of the tasks are the first of an array, and each is in order.
-use Rattle.std.proofs.Common.{◌≡◌, ℕ, zero, suc, Bool, true, List, [], ◌∷◌, take, set, refl, ap}
+use Rattle.std.proofs.Common.{◌≡◌, ℕ, zero, suc, ◌<◌, Bool, true, List, [], ◌∷◌, length, take, get_or, set, refl, ap, arith}
 use Rattle.calls.specs.declared.record.Record.{Record}
 use Rattle.std.specs.List.{list_all}
 use Rattle.std.proofs.lemmas.Bool.{and_parts, and_from}
@@ -14,3 +14,8 @@ pub pass_set : (p : Record → Bool) (rs : List Record) (i : ℕ) (r : Record) �
 pass_set p [] i r h k = h
 pass_set p (x ∷ rs) zero r h k = and_from (p r) (list_all p rs) k (and_parts (p x) (list_all p rs) h).1
 pass_set p (x ∷ rs) (suc i) r h k = let parts = and_parts (p x) (list_all p rs) h in and_from (p x) (list_all p (set rs i r)) parts.0 (pass_set p rs i r parts.1 k)
+
+pub pass_at : (p : Record → Bool) (rs : List Record) (i : ℕ) (d : Record) → list_all p rs ≡ true → i < length rs → p (get_or rs i d) ≡ true
+pass_at p [] i d h few = absurd (omega (arith, few))
+pass_at p (x ∷ rs) zero d h few = (and_parts (p x) (list_all p rs) h).0
+pass_at p (x ∷ rs) (suc i) d h few = pass_at p rs i d (and_parts (p x) (list_all p rs) h).1 (omega (arith, few))

@@ -1,5 +1,4 @@
 pub mod Kept
-pub mod Settled
 pub mod Done
 pub mod Opened
 pub mod Facts

@@ -1,21 +1,34 @@
 // The calls that move a task by one line.
+ghost use Rattle.std.specs.Prelude.{◌≡◌, ◌≤◌, length};
 ghost use Rattle.calls.specs.Questions.{task_refusal};
 ghost use Rattle.calls.specs.Steps.{advance, begin, line};
+ghost use Rattle.lines.specs.Lines.{next_deed};
 ghost use Rattle.lock.specs.Answers.{said};
+ghost use Rattle.lock.specs.Performed.{Performed};
 ghost use Rattle.lock.specs.Tasks.{Given};
 ghost use Rattle.lock.specs.View.{CarriesOut, Does, record_at, records_of, view};
 
-use crate::deeds::perform;
+use crate::deeds::{Told, perform};
 use crate::locks::Lock;
 use crate::task::{ReadyTask, Task};
 use calls::refusal::Refusal;
 use memory::interface::Memory;
 use queue::interface::Queue;
 
+impl Task {
+    // Does the one deed of the task's next line.
+    #[inline(always)]
+    fn do_deed<M: Memory, Q: Queue>(self, memory: &mut M, queue: &mut Q) -> Result<Told, Refusal>
+        ensures { Performed M.Memory Q.Queue memory.old queue.old self.number (next_deed self.number self.state.track) result memory.new queue.new }
+    {
+        perform(memory, queue, self.number, self.state.track.deed(self.number))
+    }
+}
+
 impl<'a, M: Memory, Q: Queue> Lock<'a, M, Q> {
     // The task with this number. Refused: 10, 20.
     pub(crate) fn find(&self, number: u32) -> Result<Task, Refusal>
-        ensures { Given (task_refusal (view M.Memory Q.Queue self.now) number) number (record_at (records_of self.now.records) number) result (Unit {0}) }
+        ensures { Given (task_refusal (view M.Memory Q.Queue self.now) number) number (record_at (records_of self.now.records) number) result (number ≤ length (records_of self.now.records)) }
     {
         if !self.is_open() {
             return Err(Refusal::Shut);
@@ -23,14 +36,26 @@ impl<'a, M: Memory, Q: Queue> Lock<'a, M, Q> {
         self.records.get(number).ok_or(Refusal::NoTask)
     }
 
-    // The task does its next line.
-    pub(crate) fn do_line(&mut self, ready: ReadyTask) -> Result<(), Refusal>
+    // The task does its next line; its record is in place.
+    #[inline(always)]
+    fn do_next(&mut self, ready: ReadyTask) -> Result<(), Refusal>
+        requires among { ready.task.number ≤ length (records_of self.old.records) }
+        requires in_place { record_at (records_of self.old.records) ready.task.number ≡ ready.task.state }
         ensures { CarriesOut M.Memory Q.Queue (line ready.task.number ready.task.state) self.old (said result) self.new }
     {
-        let number = ready.task.number;
-        let deed = ready.task.state.track.deed(number);
-        let told = perform(&mut self.memory, &mut self.queue, number, deed)?;
-        self.records.put(ready.settle(told));
+        let told = ready.task.do_deed(&mut self.memory, &mut self.queue)?;
+        self.records.settle(ready.task.number, told);
+        Ok(())
+    }
+
+    // The same where the call has moved the task to the line: its record is put in place once the deed is done.
+    pub(crate) fn do_line(&mut self, ready: ReadyTask) -> Result<(), Refusal>
+        requires { ready.task.number ≤ length (records_of self.old.records) }
+        ensures { CarriesOut M.Memory Q.Queue (line ready.task.number ready.task.state) self.old (said result) self.new }
+    {
+        let told = ready.task.do_deed(&mut self.memory, &mut self.queue)?;
+        self.records.put(ready.task);
+        self.records.settle(ready.task.number, told);
         Ok(())
     }
 
@@ -47,6 +72,6 @@ impl<'a, M: Memory, Q: Queue> Lock<'a, M, Q> {
         ensures { Does M.Memory Q.Queue (advance task) self.old (said result) self.new }
     {
         let ready = self.find(task)?.ready_to_advance()?;
-        self.do_line(ready)
+        self.do_next(ready)
     }
 }

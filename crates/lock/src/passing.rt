@@ -1,5 +1,5 @@
 // Passes handed out and laid back.
-ghost use Rattle.std.specs.Prelude.{◌≡◌, true, None, Some};
+ghost use Rattle.std.specs.Prelude.{◌≡◌, ◌≤◌, true, None, Some, length};
 ghost use Rattle.lines.specs.Rights.{right_of};
 ghost use Rattle.calls.specs.Questions.{out_for, pass_refusal, take_refusal};
 ghost use Rattle.calls.specs.Records.{with_out};
@@ -66,7 +66,7 @@ impl Task {
 impl<'a, M: Memory, Q: Queue> Lock<'a, M, Q> {
     // The task that a pass names, where such a pass is out to it. Refused: 10, 27, 28.
     pub(crate) fn holder<R: Bears>(&self, pass: &Pass<R>) -> Result<Task, Refusal>
-        ensures { let r = record_at (records_of self.now.records) pass.now.task in Given (pass_refusal (view M.Memory Q.Queue self.now) R.right pass.now.lock pass.now.task) pass.now.task r result (out_for r.out R.right ≡ true) }
+        ensures { let r = record_at (records_of self.now.records) pass.now.task in Given (pass_refusal (view M.Memory Q.Queue self.now) R.right pass.now.lock pass.now.task) pass.now.task r result ((pass.now.task ≤ length (records_of self.now.records)) × (out_for r.out R.right ≡ true)) }
     {
         if !self.is_open() {
             return Err(Refusal::Shut);

@@ -1,11 +1,14 @@
 // What a line that was done makes of its task's record.
-ghost use Rattle.std.specs.Prelude.{◌≡◌, ◌*◌, ◌<◌, ◌≤◌};
+ghost use Rattle.std.specs.Prelude.{◌≡◌, ◌-◌, ◌*◌, ◌<◌, ◌≤◌, true, None, length, slice_set};
 ghost use Rattle.calls.specs.Accounts.{closed};
-ghost use Rattle.calls.specs.Records.{arrived, settled};
+ghost use Rattle.calls.specs.Questions.{advance_refusal};
+ghost use Rattle.calls.specs.Records.{arrived, in_order, settled};
+ghost use Rattle.lock.specs.View.{record_at, records_of};
 
 use crate::deeds::Told;
-use crate::task::{ReadyTask, Task};
+use crate::records::Records;
 use calls::account::Account;
+use calls::record::Record;
 use lines::place::Place;
 
 // The attempt is finished. Its task had a finish left when it began.
@@ -29,20 +32,28 @@ fn arrive(account: &mut Account, place: Place)
     }
 }
 
-impl ReadyTask {
-    // The next line was done, and this is what was told of it.
+// The task of this record did its next line, and this is what was told of it.
+#[inline(always)]
+fn settle_one(record: &mut Record, told: Told)
+    requires ordered { in_order record.old ≡ true }
+    requires on_line { advance_refusal record.old ≡ None }
+    ensures { record.new ≡ settled record.old told.found told.share }
+{
+    record.track.step(told.found);
+    record.account.charge(told.share);
+    arrive(&mut record.account, record.track.place);
+}
+
+impl Records {
+    // The same for the task with this number.
     #[inline(always)]
-    pub(crate) fn settle(self, told: Told) -> Task
-        ensures number { result.number ≡ self.task.number }
-        ensures state { result.state ≡ settled self.task.state told.found told.share }
+    pub(crate) fn settle(&mut self, number: u32, told: Told)
+        requires low { 1 ≤ number }
+        requires high { number ≤ length (records_of self.old) }
+        requires on_line { advance_refusal (record_at (records_of self.old) number) ≡ None }
+        ensures is { records_of self.new ≡ slice_set (records_of self.old) (number - 1) (settled (record_at (records_of self.old) number) told.found told.share) }
+        ensures count { length (records_of self.new) ≡ length (records_of self.old) }
     {
-        let mut state = self.task.state;
-        state.track.step(told.found);
-        state.account.charge(told.share);
-        arrive(&mut state.account, state.track.place);
-        Task {
-            number: self.task.number,
-            state,
-        }
+        settle_one(&mut self.all[number as usize - 1], told);
     }
 }

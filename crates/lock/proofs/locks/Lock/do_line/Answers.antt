@@ -1,5 +1,9 @@
-use Rattle.std.proofs.Common.{◌-◌, ltb, set, refl, ap, ◌∙◌}
-use Rattle.lock.specs.View.{records_of, view}
+use Rattle.std.proofs.Common.{◌-◌, ltb, set, refl, ap, ◌∙◌, arith, rules}
+use Rattle.std.proofs.lemmas.List.{get_or-set_same, set-set}
+use Rattle.lines.specs.declared.place.Role.TheVariants.{Reader}
+use Rattle.calls.specs.declared.record.Record.{Record}
+use Rattle.calls.specs.Records.{fresh, settled}
+use Rattle.lock.specs.View.{record_at, records_of, view}
 use Rattle.lock.proofs.Done.{line_done}
 use Rattle.lock.proofs.locks.Lock.do_line.Goals as goal
 
@@ -8,8 +12,12 @@ returns g c =
     let m = g.M.Memory in
     let s = c.args.self.now in
     let k = c.args.ready.task in
+    let told = c.in_ok-told.told in
     let p = c.in_ok-told.ensures in
-    let opened = ap (ltb 0) c.put.ensures.count in
-    let y = c.settle.result.state in
-    let records = ◌∙◌ {b = set (records_of s.records) (c.settle.result.number - 1) y} c.put.ensures.is (ap (λ n. set (records_of s.records) (n - 1) y) c.settle.ensures.number) in
-    (line_done m.limit m.does (view m g.Q.Queue s) _ _ _ k.number k.state c.deed-deed.result _ _ y c.deed-deed.ensures p.0 p.1 p.2 c.settle.ensures.state refl opened p.3 p.4 records refl, refl)
+    let rs = records_of s.records in
+    let i = k.number - 1 in
+    let own = c.put.ensures.is in
+    let same = get_or-set_same rs i k.state (fresh Reader) (search (rules, arith)) in
+    let y = settled k.state told.found told.share in
+    let records = c.settle.ensures.is ∙ ap (λ z. set z i (settled (record_at z k.number) told.found told.share)) own ∙ ap (λ (r : Record). set (set rs i k.state) i (settled r told.found told.share)) same ∙ set-set rs i k.state y in
+    (line_done m.limit m.does (view m g.Q.Queue s) _ _ _ k.number k.state _ _ _ y refl p.0 p.1 p.2 refl refl (ap (ltb 0) (c.settle.ensures.count ∙ c.put.ensures.count)) p.3 p.4 records refl, refl)
