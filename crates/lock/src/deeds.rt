@@ -51,6 +51,7 @@ impl From<Reply<()>> for Told {
 }
 
 // Does the deed for the task. A deed that touches no cell has a share of 0.
+#[inline(always)]
 pub(crate) fn perform<M: Memory, Q: Queue>(
     memory: &mut M,
     queue: &mut Q,
