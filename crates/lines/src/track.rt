@@ -92,6 +92,7 @@ impl Track {
 
     // The next line was done, and this is what it found. A task that is on no line stays as it is.
     // The groups go by the published numbers: one match over all 42 lines would be too long to read.
+    #[inline(always)]
     pub fn step(&mut self, found: Found)
         ensures { self.new ≡ stepped self.old found }
     {
@@ -108,6 +109,7 @@ impl Track {
 
     // A line of a writer was done: 0.1 to 6 on the way in, 7 and 8 on the way out. (Line and found come
     // side by side to these four: each matches on the pair, and a struct would only wrap it.)
+    #[inline(always)]
     fn step_writer(&mut self, line: Line, found: Found)
         requires { tenfold line < 90 }
         ensures { self.new ≡ settle line self.old found }
@@ -133,6 +135,7 @@ impl Track {
     }
 
     // A line of promote was done, 9 to 15.
+    #[inline(always)]
     fn step_promote(&mut self, line: Line, found: Found)
         requires { (90 ≤ tenfold line) × (tenfold line < 160) }
         ensures { self.new ≡ settle line self.old found }
@@ -152,6 +155,7 @@ impl Track {
     }
 
     // A line of a reader's way in was done, 16 to 22.2.
+    #[inline(always)]
     fn step_reader(&mut self, line: Line, found: Found)
         requires { (160 ≤ tenfold line) × (tenfold line < 230) }
         ensures { self.new ≡ settle line self.old found }
@@ -182,6 +186,7 @@ impl Track {
     }
 
     // A line of a task that was inside was done: upgrade, downgrade or leave, 23 to 32.1.
+    #[inline(always)]
     fn step_inside(&mut self, line: Line, found: Found)
         requires { 230 ≤ tenfold line }
         ensures { self.new ≡ settle line self.old found }
