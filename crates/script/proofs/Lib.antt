@@ -1,2 +1,3 @@
+pub mod Alone
 pub mod Digits
 pub mod Pieces

@@ -1,5 +1,5 @@
 -- Which fields are numbers, and what they say.
-use Rattle.std.specs.Prelude.{ℕ, ◌+◌, ◌-◌, ◌*◌, Bool, false, cond, ◌&&◌, List, [], ◌∷◌, length, Ok, Err, Result, ◌==◌, nat_le, nat_lt, slice_index}
+use Rattle.std.specs.Prelude.{ℕ, ◌+◌, ◌-◌, ◌*◌, Bool, false, cond, ◌&&◌, List, [], ◌∷◌, length, Ok, Err, Result, ◌==◌, nat_le, nat_lt, min, slice_index}
 use Rattle.std.specs.Char.{is_ascii_digit}
 use Rattle.std.specs.List.{list_all}
 use Rattle.script.specs.declared.refusal.Refusal.{Refusal}
@@ -20,6 +20,14 @@ value ds = value_after 0 ds
 -- the number that the digits say, if it is not too large
 abbrev pub bounded : List ℕ → Result ℕ Refusal
 bounded ds = cond (nat_le (value ds) 4294967295) (Ok (value ds)) (Err why.Number)
+
+-- the number that the numeral says, or 2 ^ 32 where it is larger
+abbrev pub capped : List ℕ → Result ℕ Refusal
+capped ds = cond (numeral ds) (Ok (min (value ds) 4294967296)) (Err why.Fields)
+
+-- the number n, if it is not too large
+abbrev pub narrowed : ℕ → Result ℕ Refusal
+narrowed n = cond (nat_le n 4294967295) (Ok n) (Err why.Number)
 
 -- the fields are one number and nothing else
 abbrev pub one : List (List ℕ) → Result ℕ Refusal
