@@ -16,7 +16,7 @@ use queue::ring::Ring;
 use schedule::desk::Desk;
 use schedule::printing::print;
 use std::io;
-use std::io::{BufWriter, Read, Write};
+use std::io::{Read, Write};
 use words::array::Words;
 
 // Prints the listing of a schedule, its calls made to these four locks. They come one by one, since the borrow
@@ -61,7 +61,5 @@ fn list<T: Write>(input: &[u8], out: &mut T) -> io::Result<()>
 fn main(rt: HostRuntime) -> io::Result<()> {
     let mut input = Vec::new(rt.alloc());
     rt.stdin().read_to_end(&mut input)?;
-    let mut out = BufWriter::new(rt.alloc(), rt.stdout())?;
-    list(input.as_slice(), &mut out)?;
-    out.flush()
+    list(input.as_slice(), &mut rt.stdout())
 }

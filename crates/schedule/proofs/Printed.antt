@@ -1,7 +1,7 @@
 -- The bytes of all lines, one after another, are the listing.
-use Rattle.std.proofs.Common.{◌≡◌, ℕ, ◌+◌, ◌-◌, cond, leb, List, [], ◌∷◌, ◌++◌, length, take, drop, Some, None, Ok, Option, sym, refl, ap, ◌∙◌, subst, inl, inr, arith}
+use Rattle.std.proofs.Common.{◌≡◌, ℕ, ◌+◌, ◌≤◌, cond, leb, List, [], ◌++◌, length, take, drop, Some, None, Ok, Option, Result, sym, refl, ap, ◌∙◌, subst, inl, inr, arith, length-append, length-take-le}
 use Rattle.std.proofs.lemmas.Bool.{cases_Bool}
-use Rattle.std.proofs.lemmas.List.{append-nil, append_assoc}
+use Rattle.std.proofs.lemmas.List.{append-nil, append_assoc, take_at}
 use Rattle.std.specs.Io.KnownBytes.{Appends}
 use Rattle.memory.specs.declared.interface.Memory.{Ghosts as MemoryGhosts}
 use Rattle.queue.specs.declared.interface.Queue.{Ghosts as QueueGhosts}
@@ -15,6 +15,7 @@ use Rattle.script.specs.Cuts.{lines}
 use Rattle.script.specs.Reading.{to_come as lines_to_come}
 use Rattle.listing.specs.Written.{TookBytes}
 use Rattle.schedule.specs.declared.desk.Desk.{Desk}
+use Rattle.schedule.specs.declared.refusal.Refusal.{Refusal}
 use Rattle.schedule.specs.declared.schedule.Schedule.{Schedule}
 use Rattle.schedule.specs.Boards.{AtBoard, Follows, GivesListed, PairFollows, Stands}
 use Rattle.schedule.specs.Listing.{Begun, Gives, GivesLine, left, reply_bytes, whole_refused}
@@ -30,13 +31,14 @@ appends_more (Some old) None c xs ys h k = absurd h
 appends_more (Some old) (Some bs) None xs ys h k = absurd k
 appends_more (Some old) (Some bs) (Some cs) xs ys h k = k ∙ ap (λ z. z ++ ys) h ∙ append_assoc old xs ys
 
-take_laid : (bs d : List ℕ) → take (length bs) (bs ++ d) ≡ bs
-take_laid [] d = refl
-take_laid (b ∷ bs) d = ap (λ z. b ∷ z) (take_laid bs d)
-
--- the bytes handed out are at the start of the buffer
-pub taken_bytes : (d bs o : List ℕ) (count : ℕ) → TookBytes d bs count o → take count o ≡ bs
-taken_bytes d bs o count t = ap (λ n. take n o) t.count ∙ ap (take (length bs)) t.after ∙ take_laid bs (drop (length bs) d)
+-- the bytes handed out behind those that are held
+held_more : (buffer bs d o behind : List ℕ) (filled count : ℕ) → filled ≤ length buffer → TookBytes d bs count o → take (filled + count) (take filled buffer ++ (o ++ behind)) ≡ take filled buffer ++ bs
+held_more buffer bs d o behind filled count fits t =
+    let held = take filled buffer in
+    ap (λ z. take (filled + count) (held ++ (z ++ behind))) t.after
+    ∙ ap (λ z. take (filled + count) (held ++ z)) (append_assoc bs (drop (length bs) d) behind)
+    ∙ ap (take (filled + count)) (sym (append_assoc held bs (drop (length bs) d ++ behind)))
+    ∙ take_at (held ++ bs) (drop (length bs) d ++ behind) (filled + count) (omega (arith, length-append held bs, length-take-le filled buffer fits, t.count))
 
 module _ {W P R K : Type 0} (w : MemoryGhosts W) (p : MemoryGhosts P) (r : QueueGhosts R) (k : QueueGhosts K) (input : List ℕ) where
   -- what is still to be printed
@@ -95,11 +97,11 @@ module _ {W P R K : Type 0} (w : MemoryGhosts W) (p : MemoryGhosts P) (r : Queue
   nothing_left s t rest d o (untold why none) gives = absurd (subst (λ u. GivesLine w p r k u s d None t o) why gives.1)
   nothing_left s t rest d o (all_told told none) gives = refl
 
-  -- what was printed so far, and what is still to be
-  pub record Printing (before now : Option (List ℕ)) (s : Schedule W P R K) : Type 0 where
+  -- what was printed so far, what is held to be printed with the lines after it, and what is still to be asked for
+  pub record Printing (before now : Option (List ℕ)) (held : List ℕ) (s : Schedule W P R K) : Type 0 where
     pub printed : List ℕ
     pub rest : List ℕ
-    pub whole : printed ++ rest ≡ listing input
+    pub whole : printed ++ (held ++ rest) ≡ listing input
     pub wrote : Appends before now printed
     pub to_come : Rest s rest
 
@@ -113,22 +115,23 @@ module _ {W P R K : Type 0} (w : MemoryGhosts W) (p : MemoryGhosts P) (r : Queue
       each Packed Ring = subst (λ l. Follows p r l first_board.lock) (sym third) (at.follows Packed Ring)
       each Packed Masks = subst (λ l. Follows p k l first_board.lock) (sym fourth) (at.follows Packed Masks)
 
-  pub printing_begun : (desk : Desk W P R K) (s : Schedule W P R K) (a : Option (List ℕ)) → Begun input desk s → AtBoard w p r k desk first_board → Printing a a s
+  pub printing_begun : (desk : Desk W P R K) (s : Schedule W P R K) (a : Option (List ℕ)) → Begun input desk s → AtBoard w p r k desk first_board → Printing a a [] s
   printing_begun desk s a begun at = record { printed = []; rest = listing input; whole = refl; wrote = appends_none a; to_come = begun_rest desk s begun at }
 
-  pub printing_on : (s t : Schedule W P R K) (d o : List ℕ) (count : ℕ) (found : Option ℕ) (a b c : Option (List ℕ)) → found ≡ Some count → Printing a b s → Gives w p r k s d (Ok found) t o → ((x : Board) → Stands w p r k input s x → GivesListed w p r k input s d x (Ok found) t o) → Appends b c (take (count - 0) o) → Printing a c t
-  printing_on s t d o count found a b c is pr gives given wrote =
+  -- a line's bytes are held too
+  pub printing_on : (s t : Schedule W P R K) (buffer d o behind : List ℕ) (filled count : ℕ) (found : Option ℕ) (a b : Option (List ℕ)) → filled ≤ length buffer → found ≡ Some count → Printing a b (take filled buffer) s → Gives w p r k s d (Ok found) t o → ((x : Board) → Stands w p r k input s x → GivesListed w p r k input s d x (Ok found) t o) → Printing a b (take (filled + count) (take filled buffer ++ (o ++ behind))) t
+  printing_on s t buffer d o behind filled count found a b fits is pr gives given =
       let turn = turned s t pr.rest d o count pr.to_come (subst (λ f. Gives w p r k s d (Ok f) t o) is gives) (λ x stands. subst (λ f. GivesListed w p r k input s d x (Ok f) t o) is (given x stands)) in
-      record {
-        printed = pr.printed ++ turn.bytes;
-        rest = turn.later;
-        whole = append_assoc pr.printed turn.bytes turn.later ∙ ap (λ z. pr.printed ++ z) (sym turn.parts) ∙ pr.whole;
-        wrote = appends_more a b c pr.printed turn.bytes pr.wrote (subst (Appends b c) (ap (λ n. take n o) (omega arith) ∙ taken_bytes d turn.bytes o count turn.took) wrote);
-        to_come = turn.next;
-      }
+      let held = take filled buffer in
+      let whole = ap (λ z. pr.printed ++ z) (append_assoc held turn.bytes turn.later ∙ ap (λ z. held ++ z) (sym turn.parts)) ∙ pr.whole in
+      subst (λ z. Printing a b z t) (sym (held_more buffer turn.bytes d o behind filled count fits turn.took)) (record { printed = pr.printed; rest = turn.later; whole = whole; wrote = pr.wrote; to_come = turn.next })
 
-  pub printing_done : (s t : Schedule W P R K) (d o : List ℕ) (a b : Option (List ℕ)) → Printing a b s → Gives w p r k s d (Ok None) t o → Appends a b (listing input)
-  printing_done s t d o a b pr gives =
-      let none = nothing_left s t pr.rest d o pr.to_come gives in
-      let is : pr.printed ≡ listing input = sym (append-nil pr.printed) ∙ ap (λ z. pr.printed ++ z) (sym none) ∙ pr.whole in
-      subst (Appends a b) is pr.wrote
+  -- what was held is printed
+  pub printing_out : (s : Schedule W P R K) (held : List ℕ) (a b c : Option (List ℕ)) → Printing a b held s → Appends b c held → Printing a c [] s
+  printing_out s held a b c pr wrote = record { printed = pr.printed ++ held; rest = pr.rest; whole = append_assoc pr.printed held pr.rest ∙ pr.whole; wrote = appends_more a b c pr.printed held pr.wrote wrote; to_come = pr.to_come }
+
+  pub printing_done : (s t : Schedule W P R K) (held d o : List ℕ) (found : Result (Option ℕ) Refusal) (a b c : Option (List ℕ)) → found ≡ Ok None → Printing a b held s → Gives w p r k s d found t o → Appends b c held → Appends a c (listing input)
+  printing_done s t held d o found a b c is pr gives wrote =
+      let none = nothing_left s t pr.rest d o pr.to_come (subst (λ f. Gives w p r k s d f t o) is gives) in
+      let whole : pr.printed ++ held ≡ listing input = ap (λ z. pr.printed ++ z) (sym (append-nil held) ∙ ap (λ z. held ++ z) (sym none)) ∙ pr.whole in
+      subst (Appends a c) whole (appends_more a b c pr.printed held pr.wrote wrote)

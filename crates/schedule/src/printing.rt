@@ -12,6 +12,9 @@ use queue::interface::Queue;
 use std::io;
 use std::io::Write;
 
+// How many bytes of the listing are gathered before they are written.
+const HELD: usize = 8192;
+
 // Prints the listing of the schedule with this text, its calls made at this desk. Where nothing fails, the
 // listing is what was written, and no more.
 pub fn print<W: Memory, P: Memory, R: Queue, K: Queue, T: Write>(
@@ -22,9 +25,14 @@ pub fn print<W: Memory, P: Memory, R: Queue, K: Queue, T: Write>(
     ensures { UnitMemory 4294967295 W.Memory → UnitMemory 15 P.Memory → AtBoard W.Memory P.Memory R.Queue K.Queue desk.entry first_board → OnOk result (Appends (T.Write.contents out.old) (T.Write.contents out.new) (listing input.now)) }
 {
     let mut schedule = Schedule::new(input, desk);
-    let mut buffer = [0; ROOM];
-    while let Ok(Some(count)) = schedule.line_bytes(&mut buffer) {
-        out.write_all(&buffer[0..count])?;
+    let mut buffer = [0; HELD + ROOM];
+    let mut filled = 0;
+    while let Ok(Some(count)) = schedule.line_bytes(&mut buffer[filled..]) {
+        filled += count;
+        if filled > HELD {
+            out.write_all(&buffer[..filled])?;
+            filled = 0;
+        }
     }
-    Ok(())
+    out.write_all(&buffer[..filled])
 }
