@@ -1,3 +1,4 @@
 pub mod Answers
+pub mod Digits
 pub mod Listing
 pub mod Written

@@ -1,5 +1,5 @@
 -- Bytes written at the start of a buffer.
-use Rattle.std.specs.Prelude.{◌≡◌, ℕ, ◌<◌, ◌≤◌, List, ◌++◌, length, drop, Some, None, Option}
+use Rattle.std.specs.Prelude.{◌≡◌, ℕ, ◌+◌, ◌<◌, ◌≤◌, List, ◌++◌, length, drop, Some, None, Option}
 
 -- the buffer d with bs at its start, and else as it was
 abbrev pub laid : List ℕ → List ℕ → List ℕ
@@ -15,3 +15,8 @@ pub record TookBytes (d bs : List ℕ) (m : ℕ) (o : List ℕ) : Type 0 where
 abbrev pub Put : List ℕ → List ℕ → Option ℕ → List ℕ → Type 0
 Put d bs None o = (length d < length bs) × (o ≡ d)
 Put d bs (Some m) o = TookBytes d bs m o
+
+-- o, which has taken m bytes, takes cs as well, and is then p, which has taken k
+pub record Takes (m : ℕ) (o cs : List ℕ) (k : ℕ) (p : List ℕ) : Type 0 where
+  pub count : k ≡ m + length cs
+  pub grows : (d bs : List ℕ) → TookBytes d bs m o → TookBytes d (bs ++ cs) k p

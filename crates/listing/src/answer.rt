@@ -1,13 +1,10 @@
 // What a call of a schedule answers, as far as a listing tells it, and in which text.
 // A number of 32 bits has at most ten digits, so no text has more than 35 bytes.
-//
-// By its contract `write!` may fail even where there is room, and a listing may not:
-// so its texts are put together by `push_str`, and there is no `Display`.
-ghost use Rattle.std.specs.Prelude.{◌≡◌, ◌≤◌, length};
-ghost use Rattle.listing.specs.Answers.{place as placed, thickness, told};
+ghost use Rattle.std.specs.Prelude.{◌+◌, ◌≤◌, ◌++◌, decimal, length};
+ghost use Rattle.listing.specs.Answers.{ok, place as placed, space, thickness, told};
+ghost use Rattle.listing.specs.Written.{Takes};
 
-use arrayvec::ArrayString;
-use itoa::Buffer;
+use crate::digits::{put_byte, put_number, put_text};
 
 // Where a task is.
 #[derive(Clone, Copy, PartialEq, Eq, Debug)]
@@ -21,30 +18,46 @@ pub enum Place {
 }
 
 impl Place {
-    // Its digits, if it has any, are written into `digits`.
+    // Written behind the `at` bytes that `out` has taken; tells how many it has taken then.
     #[inline(always)]
-    fn text<'a>(self, digits: &'a mut Buffer) -> &'a str
-        ensures tells { result.now ≡ placed self }
-        ensures short { length result.now ≤ 10 }
+    fn put(self, out: &mut [u8], at: usize) -> usize
+        requires { at + 10 ≤ length out.old }
+        ensures written { Takes at out.old (placed self) result out.new }
+        ensures short { length (placed self) ≤ 10 }
     {
         match self {
-            Place::Rest => "-",
-            Place::Reading => "r",
-            Place::Writing => "w",
-            Place::At(line) => digits.format(line),
+            Place::Rest => put_byte(out, at, b'-'),
+            Place::Reading => put_byte(out, at, b'r'),
+            Place::Writing => put_byte(out, at, b'w'),
+            Place::At(line) => put_number(out, at, line),
         }
     }
 }
 
-// A thickness, or "absent". Its digits, if it has any, are written into `digits`.
-fn thickness_text(row: Option<u32>, digits: &mut Buffer) -> &str
-    ensures tells { result.now ≡ thickness row }
-    ensures short { length result.now ≤ 10 }
+// A thickness, or "absent", written in the same way.
+#[inline(always)]
+fn put_thickness(out: &mut [u8], at: usize, row: Option<u32>) -> usize
+    requires { at + 10 ≤ length out.old }
+    ensures written { Takes at out.old (thickness row) result out.new }
+    ensures short { length (thickness row) ≤ 10 }
 {
     match row {
-        Some(number) => digits.format(number),
-        None => "absent",
+        Some(number) => put_number(out, at, number),
+        None => put_text(out, at, b"absent"),
     }
+}
+
+// What both answers with a place begin with, behind a space.
+#[inline(always)]
+fn put_moved(out: &mut [u8], at: usize, place: Place, cost: u32) -> usize
+    requires { at + 25 ≤ length out.old }
+    ensures written { Takes at out.old (space ++ (ok ++ placed place ++ space ++ decimal cost)) result out.new }
+    ensures short { length (ok ++ placed place ++ space ++ decimal cost) ≤ 24 }
+{
+    let at = put_text(out, at, b" ok ");
+    let at = place.put(out, at);
+    let at = put_byte(out, at, b' ');
+    put_number(out, at, cost)
 }
 
 #[derive(Clone, Copy, PartialEq, Eq, Debug)]
@@ -60,35 +73,28 @@ pub enum Answer {
 }
 
 impl Answer {
-    pub(crate) fn text(self) -> ArrayString<35>
-        ensures { result.bytes ≡ told self }
+    // A space and the text, written in the same way.
+    #[inline(always)]
+    pub(crate) fn put(self, out: &mut [u8], at: usize) -> usize
+        requires { at + 36 ≤ length out.old }
+        ensures written { Takes at out.old (space ++ told self) result out.new }
+        ensures short { length (told self) ≤ 35 }
     {
-        let mut digits = Buffer::new();
-        let mut text = ArrayString::new();
         match self {
             Answer::Opened(tasks) => {
-                text.push_str("ok ");
-                text.push_str(digits.format(tasks));
+                let at = put_text(out, at, b" ok ");
+                put_number(out, at, tasks)
             }
-            Answer::Moved(place, cost) => {
-                text.push_str("ok ");
-                text.push_str(place.text(&mut digits));
-                text.push_str(" ");
-                text.push_str(digits.format(cost));
-            }
+            Answer::Moved(place, cost) => put_moved(out, at, place, cost),
             Answer::Row(place, cost, row) => {
-                text.push_str("ok ");
-                text.push_str(place.text(&mut digits));
-                text.push_str(" ");
-                text.push_str(digits.format(cost));
-                text.push_str(" ");
-                text.push_str(thickness_text(row, &mut digits));
+                let at = put_moved(out, at, place, cost);
+                let at = put_byte(out, at, b' ');
+                put_thickness(out, at, row)
             }
             Answer::Refused(why) => {
-                text.push_str("no ");
-                text.push_str(digits.format(why));
+                let at = put_text(out, at, b" no ");
+                put_number(out, at, why)
             }
         }
-        text
     }
 }

@@ -3,6 +3,7 @@
 #![tactic(auto)]
 
 pub mod answer;
+mod digits;
 #[cfg(test)]
 mod tests;
 pub mod write;

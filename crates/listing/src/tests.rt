@@ -45,6 +45,38 @@ fn answers(rt: HostRuntime) -> Result<(), Fail> {
     shows(&rt, 0, Answer::Refused(43), b"0 no 43\n")
 }
 
+// Each count of digits, with a 0 at the front of each pair.
+#[test]
+fn digits(rt: HostRuntime) -> Result<(), Fail> {
+    shows(&rt, 9, Answer::Opened(10), b"9 ok 10\n")?;
+    shows(&rt, 99, Answer::Opened(100), b"99 ok 100\n")?;
+    shows(&rt, 909, Answer::Opened(1001), b"909 ok 1001\n")?;
+    shows(&rt, 9999, Answer::Opened(10000), b"9999 ok 10000\n")?;
+    shows(&rt, 12345, Answer::Opened(100902), b"12345 ok 100902\n")?;
+    shows(
+        &rt,
+        1000203,
+        Answer::Opened(98765432),
+        b"1000203 ok 98765432\n",
+    )?;
+    shows(
+        &rt,
+        100020003,
+        Answer::Opened(1234567890),
+        b"100020003 ok 1234567890\n",
+    )
+}
+
+#[test]
+fn just_room_for_an_answer(rt: HostRuntime) {
+    let mut out = [b'.'; 9];
+    let moved = Answer::Moved(Place::At(17), 1);
+    assert_eq!(rt; put_answer(&mut out[..8], 3, moved), None);
+    assert_eq!(rt; &out[0..9], b".........".as_slice());
+    assert_eq!(rt; put_answer(&mut out, 13, Answer::Refused(1)), Some(8));
+    assert_eq!(rt; &out[0..9], b"13 no 1\n.".as_slice());
+}
+
 #[test]
 fn just_room(rt: HostRuntime) {
     let mut out = [b'.'; 10];

@@ -1,0 +1,13 @@
+use Rattle.std.proofs.Common.{arith}
+use Rattle.listing.proofs.Decimals.{decimal_four, length_four}
+use Rattle.listing.proofs.Taken.{takes_both}
+use Rattle.listing.proofs.digits.put_high.Goals as goal
+
+pub put_short-at-requires : goal.put_short-at-requires
+put_short-at-requires c = (omega arith, omega (arith, length_four c.args.number c.if-number-lt10000.false (omega arith)))
+
+pub put_four-requires : goal.put_four-requires
+put_four-requires c = (omega arith, omega (arith, length_four c.args.number c.if-number-lt10000.false (omega arith)))
+
+pub returns : goal.returns
+returns c = rw (decimal_four c.args.number c.if-number-lt10000.false (omega arith)) (takes_both c.put_short-at.ensures c.put_four.ensures)
