@@ -41,6 +41,12 @@ decimal_two n lo hi =
 pub length_two : (n : ℕ) → 100 ≤ n → n < 2 ^ 64 → length (decimal n) ≡ length (decimal (n / 100)) + 2
 length_two n lo hi = ap length (decimal_two n lo hi) ∙ length-append _ _
 
+pub decimal_full : (n : ℕ) → 1000 ≤ n → n < 10000 → decimal n ≡ two (n / 100) ++ two (n % 100)
+decimal_full n lo hi = rw (decimal_two n (omega arith) (omega arith), decimal_short (n / 100) (omega arith) (omega arith))
+
+pub length_full : (n : ℕ) → 1000 ≤ n → n < 10000 → length (decimal n) ≡ 4
+length_full n lo hi = ap length (decimal_full n lo hi)
+
 pub decimal_four : (n : ℕ) → 10000 ≤ n → n < 2 ^ 64 → decimal n ≡ decimal (n / 10000) ++ (two (n % 10000 / 100) ++ two (n % 10000 % 100))
 decimal_four n lo hi =
     let a : n / 100 / 100 ≡ n / 10000 = omega arith in

@@ -4,7 +4,7 @@ ghost use Rattle.std.specs.Prelude.{◌+◌, ◌≤◌, ◌++◌, decimal, lengt
 ghost use Rattle.listing.specs.Answers.{ok, place as placed, space, thickness, told};
 ghost use Rattle.listing.specs.Written.{Takes};
 
-use crate::digits::{put_byte, put_number, put_text};
+use crate::digits::{put_byte, put_number, put_rare, put_text};
 
 // Where a task is.
 #[derive(Clone, Copy, PartialEq, Eq, Debug)]
@@ -42,7 +42,7 @@ fn put_thickness(out: &mut [u8], at: usize, row: Option<u32>) -> usize
     ensures short { length (thickness row) ≤ 10 }
 {
     match row {
-        Some(number) => put_number(out, at, number),
+        Some(number) => put_rare(out, at, number),
         None => put_text(out, at, b"absent"),
     }
 }
@@ -58,6 +58,18 @@ fn put_moved(out: &mut [u8], at: usize, place: Place, cost: u32) -> usize
     let at = place.put(out, at);
     let at = put_byte(out, at, b' ');
     put_number(out, at, cost)
+}
+
+// An answer with a thickness, behind a space: out of line, since most have none.
+#[cold]
+fn put_row(out: &mut [u8], at: usize, place: Place, cost: u32, row: Option<u32>) -> usize
+    requires { at + 36 ≤ length out.old }
+    ensures written { Takes at out.old (space ++ (ok ++ placed place ++ space ++ decimal cost ++ space ++ thickness row)) result out.new }
+    ensures short { length (ok ++ placed place ++ space ++ decimal cost ++ space ++ thickness row) ≤ 35 }
+{
+    let at = put_moved(out, at, place, cost);
+    let at = put_byte(out, at, b' ');
+    put_thickness(out, at, row)
 }
 
 #[derive(Clone, Copy, PartialEq, Eq, Debug)]
@@ -83,17 +95,13 @@ impl Answer {
         match self {
             Answer::Opened(tasks) => {
                 let at = put_text(out, at, b" ok ");
-                put_number(out, at, tasks)
+                put_rare(out, at, tasks)
             }
             Answer::Moved(place, cost) => put_moved(out, at, place, cost),
-            Answer::Row(place, cost, row) => {
-                let at = put_moved(out, at, place, cost);
-                let at = put_byte(out, at, b' ');
-                put_thickness(out, at, row)
-            }
+            Answer::Row(place, cost, row) => put_row(out, at, place, cost, row),
             Answer::Refused(why) => {
                 let at = put_text(out, at, b" no ");
-                put_number(out, at, why)
+                put_rare(out, at, why)
             }
         }
     }

@@ -1,9 +1,11 @@
-// Bytes and the digits of a number, written into a lent buffer behind the `at` bytes
-// that it has taken. Each function returns how many bytes it has taken then.
+// Bytes, texts and the digits of a number, written into a lent buffer behind the `at`
+// bytes that it has taken. Each function returns how many bytes it has taken then.
+// (`out` and `at` come side by side: a struct around both would hold the loan.)
 ghost use Rattle.std.specs.Prelude.{◌≡◌, ◌+◌, ◌/◌, ◌%◌, ◌<◌, ◌≤◌, [], ◌∷◌, ◌++◌, length, decimal};
 ghost use Rattle.listing.specs.Digits.{two};
 ghost use Rattle.listing.specs.Written.{Takes};
 
+// "00" to "99", one behind another.
 static PAIRS: [u8; 200] =
     *b"00010203040506070809101112131415161718192021222324252627282930313233343536373839404142434445464748495051525354555657585960616263646566676869707172737475767778798081828384858687888990919293949596979899";
 
@@ -48,63 +50,82 @@ fn put_four(out: &mut [u8], at: usize, number: u32) -> usize
     put_two(out, at, number % 100)
 }
 
-// A number below 100.
+// A number below 10.
+#[inline(always)]
+fn put_one(out: &mut [u8], at: usize, number: u32) -> usize
+    requires { (number < 10) × (at < length out.old) }
+    ensures { Takes at out.old (decimal number) result out.new }
+{
+    put_byte(out, at, b'0' + number as u8)
+}
+
+// A number below 1000.
 #[inline(always)]
 fn put_short(out: &mut [u8], at: usize, number: u32) -> usize
-    requires { (number < 100) × (at + length (decimal number) ≤ length out.old) }
+    requires { (number < 1000) × (at + length (decimal number) ≤ length out.old) }
     ensures { Takes at out.old (decimal number) result out.new }
 {
     if number < 10 {
-        return put_byte(out, at, b'0' + number as u8);
+        return put_one(out, at, number);
     }
-    put_two(out, at, number)
-}
-
-// A number below 10000.
-#[inline(always)]
-fn put_middle(out: &mut [u8], at: usize, number: u32) -> usize
-    requires { (number < 10000) × (at + length (decimal number) ≤ length out.old) }
-    ensures { Takes at out.old (decimal number) result out.new }
-{
     if number < 100 {
-        return put_short(out, at, number);
+        return put_two(out, at, number);
     }
-    let at = put_short(out, at, number / 100);
+    let at = put_one(out, at, number / 100);
     put_two(out, at, number % 100)
 }
 
 // A number below a million.
 #[inline(always)]
-fn put_high(out: &mut [u8], at: usize, number: u32) -> usize
+fn put_middle(out: &mut [u8], at: usize, number: u32) -> usize
     requires { (number < 1000000) × (at + length (decimal number) ≤ length out.old) }
     ensures { Takes at out.old (decimal number) result out.new }
 {
+    if number < 1000 {
+        return put_short(out, at, number);
+    }
     if number < 10000 {
-        return put_middle(out, at, number);
+        return put_four(out, at, number);
     }
     let at = put_short(out, at, number / 10000);
     put_four(out, at, number % 10000)
 }
 
-// A number from 10000 on.
-fn put_long(out: &mut [u8], at: usize, number: u32) -> usize
-    requires { (10000 ≤ number) × (at + length (decimal number) ≤ length out.old) }
-    ensures { Takes at out.old (decimal number) result out.new }
-{
-    let at = put_high(out, at, number / 10000);
-    put_four(out, at, number % 10000)
-}
-
-// The digits of `number`.
+// The digits of a number that mostly has more than three.
 #[inline(always)]
-pub(crate) fn put_number(out: &mut [u8], at: usize, number: u32) -> usize
+pub(crate) fn put_long(out: &mut [u8], at: usize, number: u32) -> usize
     requires { at + length (decimal number) ≤ length out.old }
     ensures { Takes at out.old (decimal number) result out.new }
 {
     if number < 10000 {
         return put_middle(out, at, number);
     }
+    let at = put_middle(out, at, number / 10000);
+    put_four(out, at, number % 10000)
+}
+
+// The same, out of line, where a number is seldom written.
+#[cold]
+pub(crate) fn put_rare(out: &mut [u8], at: usize, number: u32) -> usize
+    requires { at + length (decimal number) ≤ length out.old }
+    ensures { Takes at out.old (decimal number) result out.new }
+{
     put_long(out, at, number)
+}
+
+// The digits of a number that mostly has few.
+#[inline(always)]
+pub(crate) fn put_number(out: &mut [u8], at: usize, number: u32) -> usize
+    requires { at + length (decimal number) ≤ length out.old }
+    ensures { Takes at out.old (decimal number) result out.new }
+{
+    if number < 10 {
+        return put_one(out, at, number);
+    }
+    if number < 1000 {
+        return put_short(out, at, number);
+    }
+    put_rare(out, at, number)
 }
 
 // How many digits a number below 100 has.

@@ -5,7 +5,7 @@ ghost use Rattle.listing.specs.Listing.{shown, noted};
 ghost use Rattle.listing.specs.Written.{Put, TookBytes};
 
 use crate::answer::Answer;
-use crate::digits::{put_byte, put_number, put_text, width};
+use crate::digits::{put_byte, put_long, put_text, width};
 
 // Writes the line `number` of a listing, for a note, and tells how many bytes it
 // has, at most 12 more than the note; nothing where `out` has less room. (`out` and `number` come side
@@ -18,25 +18,25 @@ pub fn put_note(out: &mut [u8], number: u32, text: &[u8]) -> Option<usize>
     if out.len() <= width(number) + 1 + text.len() {
         return None;
     }
-    let at = put_number(out, 0, number);
+    let at = put_long(out, 0, number);
     let at = put_byte(out, at, b' ');
     let at = put_text(out, at, text);
     Some(put_byte(out, at, b'\n'))
 }
 
-// The same for a call that gave `answer`: a line of at most 64 bytes.
+// The line of a call that gave `answer`, where there is room for any such line.
 #[inline(always)]
 fn put_line(out: &mut [u8], number: u32, answer: Answer) -> usize
     requires { 64 ≤ length out.old }
     ensures written { TookBytes out.old (shown number answer) result out.new }
     ensures short { length (shown number answer) ≤ 64 }
 {
-    let at = put_number(out, 0, number);
+    let at = put_long(out, 0, number);
     let at = answer.put(out, at);
     put_byte(out, at, b'\n')
 }
 
-// The line is put together elsewhere, to see whether it fits.
+// The same where there may be too little room: the line is put together apart, to see whether it fits.
 #[cold]
 fn put_tight(out: &mut [u8], number: u32, answer: Answer) -> Option<usize>
     ensures line { Put out.old (shown number answer) result out.new }
@@ -50,7 +50,8 @@ fn put_tight(out: &mut [u8], number: u32, answer: Answer) -> Option<usize>
     Some(put_text(out, 0, &line[..count]))
 }
 
-// The same for a call that gave `answer`: a line of at most 64 bytes.
+// As `put_note`, for a call that gave `answer`: a line of at most 64 bytes.
+#[inline(always)]
 pub fn put_answer(out: &mut [u8], number: u32, answer: Answer) -> Option<usize>
     ensures line { Put out.old (shown number answer) result out.new }
     ensures short { length (shown number answer) ≤ 64 }
