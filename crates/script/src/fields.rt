@@ -1,7 +1,7 @@
 // The fields of a line, one after another. Single spaces part them, so two
 // spaces in a row, or one at the end, make an empty field.
 ghost use Rattle.std.specs.Prelude.{◌≡◌};
-ghost use Rattle.script.specs.Cuts.{fields as parted, later_fields};
+ghost use Rattle.script.specs.Cuts.{fields as parted};
 ghost use Rattle.script.specs.Fields.{left, Took, ended};
 
 use crate::refusal::Refusal;
@@ -20,22 +20,20 @@ impl<'a> Fields<'a> {
         Fields { rest: Some(text) }
     }
 
-    // The fields after the space that `more` begins with.
-    fn after(more: &'a [u8]) -> Fields<'a>
-        ensures { left result ≡ later_fields more.now }
-    {
-        Fields {
-            rest: more.get(1..),
-        }
-    }
-
     pub(crate) fn next(&mut self) -> Result<&'a [u8], Refusal>
         ensures { Took (left self.old) result (left self.new) }
     {
         let text = self.rest.ok_or(Refusal::Fields)?;
-        let (field, more) = text.split_at(find(text, b' '));
-        *self = Fields::after(more);
-        Ok(field)
+        match find(text, b' ') {
+            Some(end) => {
+                self.rest = Some(&text[end + 1..]);
+                Ok(&text[..end])
+            }
+            None => {
+                self.rest = None;
+                Ok(text)
+            }
+        }
     }
 
     // No field is left. (A match, since here what is there is refused and what is not is well.)

@@ -9,6 +9,17 @@ use crate::fields::Fields;
 use crate::numbers::{one_number, three_numbers, two_numbers};
 use crate::refusal::Refusal;
 
+// The fields after the letter at the front: none where no space follows it.
+#[inline(always)]
+fn arguments_of<'a>(text: &'a [u8]) -> Fields<'a>
+    ensures { left result ≡ arguments text.now }
+{
+    match text {
+        [_, b' ', rest @ ..] => Fields::of(rest),
+        _ => Fields { rest: None },
+    }
+}
+
 // A memory, a queue and roles, and nothing else.
 fn opening<'a>(mut fields: Fields<'a>) -> Result<Call<'a>, Refusal>
     ensures { over ask result ≡ opened (left fields.entry) }
@@ -23,37 +34,27 @@ fn opening<'a>(mut fields: Fields<'a>) -> Result<Call<'a>, Refusal>
     Ok(Call::Open(memory, queue, roles))
 }
 
-// The call that `letter` names, with its fields. No `map(Call::Begin)`: a case whose
+// The call that `letter` names, at the front of `text`. No `map(Call::Begin)`: a case whose
 // lifetime its argument does not name cannot be passed as a function.
-fn call_of<'a>(letter: char, fields: Fields<'a>) -> Result<Call<'a>, Refusal>
-    ensures { over ask result ≡ called letter (left fields.entry) }
+fn call_of<'a>(letter: char, text: &'a [u8]) -> Result<Call<'a>, Refusal>
+    ensures { over ask result ≡ called letter (arguments text.now) }
 {
     match letter {
-        'O' => opening(fields),
-        'E' => Ok(Call::Begin(one_number(fields)?)),
-        'S' => Ok(Call::Advance(one_number(fields)?)),
-        'U' => Ok(Call::Upgrade(one_number(fields)?)),
-        'D' => Ok(Call::Downgrade(one_number(fields)?)),
-        'L' => Ok(Call::Leave(one_number(fields)?)),
+        'O' => opening(arguments_of(text)),
+        'E' => Ok(Call::Begin(one_number(arguments_of(text))?)),
+        'S' => Ok(Call::Advance(one_number(arguments_of(text))?)),
+        'U' => Ok(Call::Upgrade(one_number(arguments_of(text))?)),
+        'D' => Ok(Call::Downgrade(one_number(arguments_of(text))?)),
+        'L' => Ok(Call::Leave(one_number(arguments_of(text))?)),
         'R' => {
-            let (task, row) = two_numbers(fields)?;
+            let (task, row) = two_numbers(arguments_of(text))?;
             Ok(Call::Read(task, row))
         }
         'P' => {
-            let (task, row, thickness) = three_numbers(fields)?;
+            let (task, row, thickness) = three_numbers(arguments_of(text))?;
             Ok(Call::Put(task, row, thickness))
         }
         _ => Err(Refusal::Letter),
-    }
-}
-
-// The fields after the letter at the front: none where no space follows it.
-fn arguments_of<'a>(text: &'a [u8]) -> Fields<'a>
-    ensures { left result ≡ arguments text.now }
-{
-    match text {
-        [_, b' ', rest @ ..] => Fields::of(rest),
-        _ => Fields { rest: None },
     }
 }
 
@@ -67,6 +68,6 @@ pub fn parse_line<'a>(text: &'a [u8]) -> Result<Line<'a>, Refusal>
     };
     match *front as char {
         '#' => Ok(Line::Note(text)),
-        letter => call_of(letter, arguments_of(text)).map(Line::Call),
+        letter => call_of(letter, text).map(Line::Call),
     }
 }

@@ -1,12 +1,19 @@
 use Rattle.std.proofs.Common.{◌<◌, length, arith, rules}
 use Rattle.std.proofs.lemmas.Bool.Decides.{nat_tests}
 use Rattle.std.proofs.lemmas.List.{take_rest}
-use Rattle.script.proofs.Pieces.{next_line}
+use Rattle.script.proofs.Pieces.{next_line, last_line}
 use Rattle.script.proofs.text.line_at.Goals as goal
 
-pub returns : goal.returns
-returns c =
+pub returns-in-Some : goal.returns-in-Some
+returns-in-Some c =
     let s = c.args.input.now in
     let at = c.args.at in
-    let some : at < length s = grind (arith, nat_tests, c.in_ok-rest.ensures.lookup) in
-    search (rules, c.in_ok-rest.ensures.lookup, next_line s at some, take_rest s at)
+    let some : at < length s = grind (arith, nat_tests) in
+    search (rules, next_line s at some, take_rest s at)
+
+pub returns-in-None : goal.returns-in-None
+returns-in-None c =
+    let s = c.args.input.now in
+    let at = c.args.at in
+    let some : at < length s = grind (arith, nat_tests) in
+    search (rules, last_line s at some, take_rest s at)
