@@ -1,22 +1,14 @@
 -- One line of a schedule was done.
-use Rattle.std.proofs.Common.{◌≡◌, ℕ, ◌+◌, ◌≤◌, List, ◌∷◌, length, Some, None, Ok, Err, Option, Result, sym, subst, arith}
+use Rattle.std.proofs.Common.{◌≡◌, ℕ, ◌+◌, ◌≤◌, List, ◌∷◌, length, Some, None, Option, Result, sym, subst, arith}
 use Rattle.memory.specs.declared.interface.Memory.{Ghosts as MemoryGhosts}
 use Rattle.queue.specs.declared.interface.Queue.{Ghosts as QueueGhosts}
 use Rattle.script.specs.Calls.{parse}
 use Rattle.listing.specs.Written.{Put, TookBytes}
-use Rattle.schedule.specs.declared.obeying.Reply.{Reply}
-use Rattle.schedule.specs.declared.obeying.Reply.TheVariants.{Nothing, Note, Answered}
 use Rattle.schedule.specs.declared.refusal.Refusal.{Refusal}
 use Rattle.schedule.specs.declared.schedule.Schedule.{Schedule}
 use Rattle.schedule.specs.Desks.{DeskTells}
 use Rattle.schedule.specs.Listing.{GivesLine, left, reply_bytes}
-use Rattle.schedule.specs.Replies.{Heard, Obeyed, Within}
-
-pub within_more : (r : Result Reply Refusal) (m n : ℕ) → m ≤ n → Within r m → Within r n
-within_more (Ok Nothing) m n h w = tt
-within_more (Ok (Note text)) m n h w = omega arith
-within_more (Ok (Answered a)) m n h w = tt
-within_more (Err e) m n h w = tt
+use Rattle.schedule.specs.Replies.{Heard, Obeyed}
 
 module _ {W P R K : Type 0} (w : MemoryGhosts W) (p : MemoryGhosts P) (r : QueueGhosts R) (k : QueueGhosts K) (s t : Schedule W P R K) (d o : List ℕ) (all-told : s.untold ≡ None) where
   -- the bytes of the line, whose number is n, fit, so they were written

@@ -1,22 +1,24 @@
 -- The listing of a schedule, line by line.
 use Rattle.std.specs.Prelude.{◌≡◌, ℕ, ◌+◌, ◌<◌, ◌≤◌, cond, List, [], ◌∷◌, length, Some, None, Ok, Err, Option, Result, nat_le}
+use Rattle.calls.specs.declared.refusal.Refusal.{Refusal as LockRefusal}
 use Rattle.memory.specs.declared.interface.Memory.{Ghosts as MemoryGhosts}
 use Rattle.queue.specs.declared.interface.Queue.{Ghosts as QueueGhosts}
 use Rattle.script.specs.declared.refusal.Refusal.{Refusal as LineRefusal}
 use Rattle.script.specs.declared.refusal.Refusal.TheVariants.{Room, Length}
-use Rattle.script.specs.Calls.{parse}
+use Rattle.script.specs.Calls.{Ask, parse}
 use Rattle.script.specs.Cuts.{lines}
 use Rattle.script.specs.Reading.{to_come}
+use Rattle.listing.specs.declared.answer.Answer.{Answer}
 use Rattle.listing.specs.declared.answer.Answer.TheVariants.{Refused}
 use Rattle.listing.specs.Listing.{shown, noted}
-use Rattle.listing.specs.Written.{TookBytes}
+use Rattle.listing.specs.Written.{Put, TookBytes}
 use Rattle.schedule.specs.declared.desk.Desk.{Desk}
 use Rattle.schedule.specs.declared.schedule.Schedule.{Schedule}
 use Rattle.schedule.specs.declared.refusal.Refusal.{Refusal}
 use Rattle.schedule.specs.declared.refusal.Refusal.TheVariants.{Line}
 use Rattle.schedule.specs.Refusals.{refusal_number}
 use Rattle.schedule.specs.Desks.{DeskTells}
-use Rattle.schedule.specs.Replies.{Heard, nothing, noting, answering, Obeyed}
+use Rattle.schedule.specs.Replies.{Heard, nothing, noting, answering, Obeyed, raised}
 
 -- the bytes of the line n, where it is refused
 abbrev pub refusal_bytes : ℕ → Refusal → List ℕ
@@ -32,6 +34,20 @@ reply_bytes n (Err e) = refusal_bytes n e
 -- the one line of an input that is refused as a whole
 abbrev pub whole_refused : LineRefusal → List ℕ
 whole_refused e = refusal_bytes 0 (Line e)
+
+-- the call a is made, tells what leads from s to t, and the line n of the listing, which tells it, is put into the buffer d
+pub record ToldInto {S : Type 0} (does : S → Ask → Result Answer LockRefusal → S → Type 0) (s : S) (a : Ask) (n : ℕ) (d : List ℕ) (count : Option ℕ) (t : S) (o : List ℕ) : Type 0 where
+  pub told : Result Answer LockRefusal
+  pub did : does s a told t
+  pub bytes : Put d (reply_bytes n (raised told)) count o
+  pub short : length (reply_bytes n (raised told)) ≤ 64
+
+-- a line with this text is obeyed, which leads from s to t, and the line n of the listing is put into the buffer d
+pub record ObeyedInto {S : Type 0} (does : S → Ask → Result Answer LockRefusal → S → Type 0) (s : S) (text : List ℕ) (n : ℕ) (d : List ℕ) (count : Option ℕ) (t : S) (o : List ℕ) : Type 0 where
+  pub reply : Result Heard Refusal
+  pub obeyed : Obeyed does s (parse text) reply t
+  pub bytes : Put d (reply_bytes n reply) count o
+  pub short : (m : ℕ) → 64 ≤ m → 12 + length text ≤ m → length (reply_bytes n reply) ≤ m
 
 module _ {W P R K : Type 0} where
   -- the lines that are still to be done

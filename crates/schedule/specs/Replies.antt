@@ -1,32 +1,16 @@
 -- What a line of a schedule comes to: nothing for a blank line, the text of a note, what a call answers, or a refusal.
-use Rattle.std.specs.Prelude.{◌≡◌, ℕ, ◌≤◌, List, length, Ok, Err, Result}
+use Rattle.std.specs.Prelude.{◌≡◌, ℕ, List, Ok, Err, Result}
 use Rattle.calls.specs.declared.refusal.Refusal.{Refusal as LockRefusal}
 use Rattle.script.specs.declared.refusal.Refusal.{Refusal as LineRefusal}
 use Rattle.script.specs.Calls.{Ask, Said, blank, note, call}
 use Rattle.listing.specs.declared.answer.Answer.{Answer}
 use Rattle.schedule.specs.declared.refusal.Refusal.{Refusal}
 use Rattle.schedule.specs.declared.refusal.Refusal.TheVariants.{Line, Lock}
-use Rattle.schedule.specs.declared.obeying.Reply.{Reply}
-use Rattle.schedule.specs.declared.obeying.Reply.TheVariants.{Nothing, Note, Answered}
 
 pub data Heard : Type 0 where
   nothing : Heard
   noting : List ℕ → Heard
   answering : Answer → Heard
-
--- what the code hands out, with the bytes of a note
-abbrev pub heard : Result Reply Refusal → Result Heard Refusal
-heard (Ok Nothing) = Ok nothing
-heard (Ok (Note text)) = Ok (noting text.now)
-heard (Ok (Answered a)) = Ok (answering a)
-heard (Err e) = Err e
-
--- a note is no longer than its line, which has n bytes
-abbrev pub Within : Result Reply Refusal → ℕ → Type 0
-Within (Ok Nothing) n = Unit {0}
-Within (Ok (Note text)) n = length text.now ≤ n
-Within (Ok (Answered a)) n = Unit {0}
-Within (Err e) n = Unit {0}
 
 -- a refusal of the lock goes up unchanged
 abbrev pub raised : Result Answer LockRefusal → Result Heard Refusal

@@ -57,6 +57,7 @@ pub(crate) fn row_told<M: Memory, Q: Queue>(
 }
 
 // Open, and how many tasks there then are.
+#[inline(never)]
 fn open<B: Memory, Q: Queue>(
     lock: &mut Lock<'_, Cache<B>, Q>,
     roles: &[u8],

@@ -46,6 +46,7 @@ impl<'b, 'a, W: Memory, P: Memory, R: Queue, K: Queue> Desk<'b, 'a, W, P, R, K> 
 
     // Makes the call to the lock of the pair. A match and no `dyn`: the four pairs are all there are, and
     // the contract speaks of each lock by its types.
+    #[inline(always)]
     fn answer_at(&mut self, pair: Pair, call: Call<'_>) -> Result<Answer, Refusal>
         ensures { PairTells W.Memory P.Memory R.Queue K.Queue pair self.old (ask call.entry) result self.new }
     {
@@ -58,6 +59,7 @@ impl<'b, 'a, W: Memory, P: Memory, R: Queue, K: Queue> Desk<'b, 'a, W, P, R, K> 
     }
 
     // Makes the call, and tells what a listing says of it. Before an O is obeyed any other call is refused: 10.
+    #[inline(always)]
     pub fn answer(&mut self, call: Call<'_>) -> Result<Answer, Refusal>
         ensures { DeskTells W.Memory P.Memory R.Queue K.Queue self.old (ask call.entry) result self.new }
     {

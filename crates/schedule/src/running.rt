@@ -1,17 +1,13 @@
 // Running a schedule line by line. Each line of the listing is written at the start of a lent buffer.
-ghost use Rattle.std.specs.Prelude.{ℕ, ◌+◌, ◌≤◌, List, length};
-ghost use Rattle.listing.specs.Written.{Put};
-ghost use Rattle.schedule.specs.Replies.{Within, heard};
+ghost use Rattle.std.specs.Prelude.{ℕ, List};
 ghost use Rattle.schedule.specs.Boards.{GivesListed, Stands, UnitMemory};
 ghost use Rattle.schedule.specs.Meaning.{Board};
-ghost use Rattle.schedule.specs.Listing.{Begun, Gives, refusal_bytes, reply_bytes};
+ghost use Rattle.schedule.specs.Listing.{Begun, Gives};
 
 use crate::desk::Desk;
-use crate::obeying::{Reply, obey};
+use crate::obeying::{obey, put_refusal};
 use crate::refusal::Refusal;
 use crate::schedule::Schedule;
-use listing::answer::Answer;
-use listing::write::{put_answer, put_note};
 use memory::interface::Memory;
 use queue::interface::Queue;
 use script::lines::fits;
@@ -19,27 +15,6 @@ use script::reader::Reader;
 
 // The room that a line of a listing may need: the number of a line, a note of a whole schedule, and what stands between.
 pub const ROOM: usize = 65552;
-
-// Writes the line `number` of the listing, for a line that was refused.
-fn put_refusal(out: &mut [u8], number: u32, why: Refusal) -> Option<usize>
-    ensures line { Put out.old (refusal_bytes number why) result out.new }
-    ensures short { length (refusal_bytes number why) ≤ 64 }
-{
-    put_answer(out, number, Answer::Refused(why.number()))
-}
-
-// Writes the line `number` of the listing, for a line that came to `reply`.
-fn put_reply(out: &mut [u8], number: u32, reply: Result<Reply<'_>, Refusal>) -> Option<usize>
-    ensures line { Put out.old (reply_bytes number (heard reply.entry)) result out.new }
-    ensures short { (n : ℕ) → 52 ≤ n → Within reply.entry n → length (reply_bytes number (heard reply.entry)) ≤ 12 + n }
-{
-    match reply {
-        Ok(Reply::Nothing) => Some(0),
-        Ok(Reply::Note(text)) => put_note(out, number, text),
-        Ok(Reply::Answered(answer)) => put_answer(out, number, answer),
-        Err(why) => put_refusal(out, number, why),
-    }
-}
 
 impl<'s, 'b, 'a, W: Memory, P: Memory, R: Queue, K: Queue> Schedule<'s, 'b, 'a, W, P, R, K> {
     // The schedule with this text, its calls made at this desk.
@@ -76,7 +51,6 @@ impl<'s, 'b, 'a, W: Memory, P: Memory, R: Queue, K: Queue> Schedule<'s, 'b, 'a, 
             return Ok(None);
         };
         let number = self.reader.number() as u32;
-        let reply = obey(&mut self.desk, text);
-        Ok(put_reply(out, number, reply))
+        Ok(obey(&mut self.desk, text, out, number))
     }
 }
