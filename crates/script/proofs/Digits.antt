@@ -1,11 +1,14 @@
 -- Numbers read from the left.
-use Rattle.std.proofs.Common.{◌≡◌, ℕ, ◌+◌, ◌-◌, ◌*◌, ◌≤◌, min, List, [], ◌∷◌, arith}
+use Rattle.std.proofs.Common.{◌≡◌, ℕ, ◌+◌, ◌-◌, ◌*◌, ◌<◌, min, List, [], ◌∷◌, ◌++◌, length, get_or, take, refl, ap, ◌∙◌, arith}
+use Rattle.std.proofs.lemmas.List.{take_more}
 use Rattle.script.specs.Numbers.{value_after}
 
-value_grows : (n : ℕ) (ds : List ℕ) → n ≤ value_after n ds
-value_grows n [] = omega arith
-value_grows n (d ∷ ds) = omega (arith, value_grows (10 * n + (d - 48)) ds)
+value_more : (n : ℕ) (ds : List ℕ) (d : ℕ) → value_after n (ds ++ d ∷ []) ≡ 10 * value_after n ds + (d - 48)
+value_more n [] d = refl
+value_more n (c ∷ ds) d = value_more (10 * n + (c - 48)) ds d
 
--- a front that is too large may be any that is
-pub capped_front : (n : ℕ) (ds : List ℕ) → min (value_after (min n 4294967296) ds) 4294967296 ≡ min (value_after n ds) 4294967296
-capped_front n ds = grind (arith, value_grows n ds, value_grows 4294967296 ds)
+-- one more digit, with the number so far capped
+pub one_more_digit : (n : ℕ) (ds : List ℕ) (i m : ℕ) → i < length ds → m ≡ min (value_after n (take i ds)) 4294967296 → min (10 * m + (get_or ds i 0 - 48)) 4294967296 ≡ min (value_after n (take (i + 1) ds)) 4294967296
+one_more_digit n ds i m lt is =
+    let more = ap (value_after n) (take_more ds i 0 lt) ∙ value_more n (take i ds) (get_or ds i 0) in
+    omega (arith, is, more)

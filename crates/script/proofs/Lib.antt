@@ -1,4 +1,4 @@
-pub mod Alone
 pub mod Digits
 pub mod Marks
+pub mod Numerals
 pub mod Pieces

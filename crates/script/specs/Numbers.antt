@@ -1,7 +1,7 @@
 -- Which fields are numbers, and what they say.
-use Rattle.std.specs.Prelude.{ℕ, ◌+◌, ◌-◌, ◌*◌, Bool, false, cond, ◌&&◌, List, [], ◌∷◌, length, Ok, Err, Result, ◌==◌, nat_le, nat_lt, min, slice_index}
+use Rattle.std.specs.Prelude.{◌≡◌, ℕ, ◌+◌, ◌-◌, ◌*◌, Bool, true, false, cond, ◌&&◌, List, [], ◌∷◌, length, Ok, Err, Result, ◌==◌, nat_le, nat_lt, min, slice_index, take, ◌⊎◌}
 use Rattle.std.specs.Char.{is_ascii_digit}
-use Rattle.std.specs.List.{list_all}
+use Rattle.std.specs.List.{list_all, prefix_len}
 use Rattle.script.specs.declared.refusal.Refusal.{Refusal}
 use Rattle.script.specs.declared.refusal.Refusal.TheVariants as why
 
@@ -21,9 +21,28 @@ value ds = value_after 0 ds
 abbrev pub bounded : List ℕ → Result ℕ Refusal
 bounded ds = cond (nat_le (value ds) 4294967295) (Ok (value ds)) (Err why.Number)
 
--- the number that the numeral says, or 2 ^ 32 where it is larger
-abbrev pub capped : List ℕ → Result ℕ Refusal
-capped ds = cond (numeral ds) (Ok (min (value ds) 4294967296)) (Err why.Fields)
+-- the first count bytes of the text are a numeral, a 0 or all digits there; n is the number that it says, or 2 ^ 32 where it is larger
+pub record FrontNumeral (text : List ℕ) (n count : ℕ) : Type 0 where
+  pub is : numeral (take count text) ≡ true
+  pub says : n ≡ min (value (take count text)) 4294967296
+  pub whole : ((count ≡ 1) × (slice_index text 0 ≡ 48)) ⊎ (count ≡ prefix_len is_ascii_digit text)
+
+-- the fields fs are a numeral and those that are left, gs; n is the number that it says, or 2 ^ 32 where it is larger
+pub record LedByNumber (fs : List (List ℕ)) (n : ℕ) (gs : List (List ℕ)) : Type 0 where
+  pub field : List ℕ
+  pub parts : fs ≡ field ∷ gs
+  pub is : numeral field ≡ true
+  pub says : n ≡ min (value field) 4294967296
+
+-- no field is left, or the first is no numeral
+abbrev pub LedByNone : List (List ℕ) → Type 0
+LedByNone [] = Unit {0}
+LedByNone (f ∷ fs) = numeral f ≡ false
+
+-- a number was taken from the fields fs, or there was none
+abbrev pub TookNumber : List (List ℕ) → Result ℕ Refusal → List (List ℕ) → Type 0
+TookNumber fs (Ok n) gs = LedByNumber fs n gs
+TookNumber fs (Err e) gs = LedByNone fs × (e ≡ why.Fields)
 
 -- the number n, if it is not too large
 abbrev pub narrowed : ℕ → Result ℕ Refusal

@@ -2,7 +2,7 @@
 // spaces in a row, or one at the end, make an empty field.
 ghost use Rattle.std.specs.Prelude.{◌≡◌};
 ghost use Rattle.script.specs.Cuts.{fields as parted};
-ghost use Rattle.script.specs.Fields.{left, Took, ended};
+ghost use Rattle.script.specs.Fields.{left, Took, PastSpace, ended};
 
 use crate::refusal::Refusal;
 use crate::text::find;
@@ -11,6 +11,18 @@ use crate::text::find;
 pub(crate) struct Fields<'a> {
     // What stands after the last space that was passed; nothing where no field is left.
     pub(crate) rest: Option<&'a [u8]>,
+}
+
+// What stands after the space that `more`, the bytes after a field, begins with; nothing where there are none.
+#[inline(always)]
+pub(crate) fn past_space<'a>(more: &'a [u8]) -> Result<Option<&'a [u8]>, Refusal>
+    ensures { PastSpace more.now result }
+{
+    match more {
+        [] => Ok(None),
+        [b' ', rest @ ..] => Ok(Some(rest)),
+        _ => Err(Refusal::Fields),
+    }
 }
 
 impl<'a> Fields<'a> {

@@ -1,34 +1,66 @@
 // Fields that are numbers. Whether each field is a numeral is asked of the whole
 // line before the size of any number, so the two questions are functions of their own.
-ghost use Rattle.std.specs.Prelude.{◌≡◌};
+ghost use Rattle.std.specs.Prelude.{◌≡◌, min, take, MatchResult};
+ghost use Rattle.std.specs.Char.{is_ascii_digit};
+ghost use Rattle.std.specs.List.{prefix_len};
+ghost use Rattle.script.specs.declared.refusal.Refusal.TheVariants as why;
 ghost use Rattle.script.specs.Fields.{left};
-ghost use Rattle.script.specs.Numbers.{capped, narrowed, one, three, two};
+ghost use Rattle.script.specs.Numbers.{FrontNumeral, TookNumber, narrowed, one, three, two, value_after};
 
-use crate::fields::Fields;
+use crate::fields::{Fields, past_space};
 use crate::refusal::Refusal;
 
 // Larger than any number of 32 bits.
 const TOO_LARGE: u64 = 1 << 32;
 
-// The number that the digits of `field` say, or `TOO_LARGE` where it is larger. Refused: 41, where `field` is no
-// numeral: digits, at least one, with no leading zero.
+// The number that `front` and the digits at the front of `text` say, or `TOO_LARGE` where it is larger, and how many
+// those digits are.
 // A loop, since `try_fold` would need a closure with a contract of its own, and `parse` of a `str` would have the
 // bytes checked as UTF-8 first.
 #[inline(always)]
-fn capped_value(field: &[u8]) -> Result<u64, Refusal>
-    ensures { result ≡ capped field.now }
+fn digits(front: u8, text: &[u8]) -> (u64, usize)
+    ensures value { result.0 ≡ min (value_after front (take result.1 text.now)) 4294967296 }
+    ensures count { result.1 ≡ prefix_len is_ascii_digit text.now }
 {
-    if let [] | [b'0', _, ..] = field {
-        return Err(Refusal::Fields);
-    }
-    let mut n = 0;
-    for b in field {
+    let mut n = front as u64;
+    for (i, b) in text.iter().enumerate() {
         if !b.is_ascii_digit() {
-            return Err(Refusal::Fields);
+            return (n, i);
         }
         n = (10 * n + (*b - b'0') as u64).min(TOO_LARGE);
     }
-    Ok(n)
+    (n, text.len())
+}
+
+// The numeral at the front of `text`, a 0 or digits that begin with another: the number that it says, or `TOO_LARGE`
+// where it is larger, and how many digits it has. Refused: 41, where no digit stands there.
+#[inline(always)]
+fn numeral(text: &[u8]) -> Result<(u64, usize), Refusal>
+    ensures { MatchResult result (λ p. FrontNumeral text.now p.0 p.1) (λ e. (prefix_len is_ascii_digit text.now ≡ 0) × (e ≡ why.Fields)) }
+{
+    let (first, later) = text.split_first().ok_or(Refusal::Fields)?;
+    if *first == b'0' {
+        return Ok((0, 1));
+    }
+    if !first.is_ascii_digit() {
+        return Err(Refusal::Fields);
+    }
+    let (n, more) = digits(*first - b'0', later);
+    Ok((n, 1 + more))
+}
+
+impl Fields<'_> {
+    // Takes a field that is a numeral. The number that it says, or `TOO_LARGE` where it is larger. Refused: 41.
+    #[inline(always)]
+    fn number(&mut self) -> Result<u64, Refusal>
+        ensures { TookNumber (left self.old) result (left self.new) }
+    {
+        let text = self.rest.ok_or(Refusal::Fields)?;
+        let (n, count) = numeral(text)?;
+        let (_, more) = text.split_at(count);
+        self.rest = past_space(more)?;
+        Ok(n)
+    }
 }
 
 // The number `n`, if it has at most 32 bits. Refused: 42.
@@ -42,21 +74,22 @@ fn narrow(n: u64) -> Result<u32, Refusal>
     Ok(n as u32)
 }
 
-// One number and nothing else: a numeral has no space in it, so all that is left is one field.
+// One number and nothing else.
 #[inline(always)]
-pub(crate) fn one_number(fields: Fields) -> Result<u32, Refusal>
+pub(crate) fn one_number(mut fields: Fields) -> Result<u32, Refusal>
     ensures { result ≡ one (left fields.entry) }
 {
-    let field = fields.rest.ok_or(Refusal::Fields)?;
-    narrow(capped_value(field)?)
+    let a = fields.number()?;
+    fields.end()?;
+    narrow(a)
 }
 
 // Two numbers and nothing else.
 pub(crate) fn two_numbers(mut fields: Fields) -> Result<(u32, u32), Refusal>
     ensures { result ≡ two (left fields.entry) }
 {
-    let a = capped_value(fields.next()?)?;
-    let b = capped_value(fields.next()?)?;
+    let a = fields.number()?;
+    let b = fields.number()?;
     fields.end()?;
     Ok((narrow(a)?, narrow(b)?))
 }
@@ -65,9 +98,9 @@ pub(crate) fn two_numbers(mut fields: Fields) -> Result<(u32, u32), Refusal>
 pub(crate) fn three_numbers(mut fields: Fields) -> Result<(u32, u32, u32), Refusal>
     ensures { result ≡ three (left fields.entry) }
 {
-    let a = capped_value(fields.next()?)?;
-    let b = capped_value(fields.next()?)?;
-    let c = capped_value(fields.next()?)?;
+    let a = fields.number()?;
+    let b = fields.number()?;
+    let c = fields.number()?;
     fields.end()?;
     Ok((narrow(a)?, narrow(b)?, narrow(c)?))
 }
