@@ -27,6 +27,7 @@ impl Task {
 
 impl<'a, M: Memory, Q: Queue> Lock<'a, M, Q> {
     // The task with this number. Refused: 10, 20.
+    #[inline(always)]
     pub(crate) fn find(&self, number: u32) -> Result<Task, Refusal>
         ensures { Given (task_refusal (view M.Memory Q.Queue self.now) number) number (record_at (records_of self.now.records) number) result (number ≤ length (records_of self.now.records)) }
     {

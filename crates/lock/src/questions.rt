@@ -20,6 +20,7 @@ impl<'a, M: Memory, Q: Queue> Lock<'a, M, Q> {
     }
 
     // What a task paid. Refused: 10, 20.
+    #[inline(always)]
     pub fn account(&self, task: u32) -> Result<Account, Refusal>
         ensures { result ≡ account_told (view M.Memory Q.Queue self.now) task }
     {
@@ -27,6 +28,7 @@ impl<'a, M: Memory, Q: Queue> Lock<'a, M, Q> {
     }
 
     // Where a task is. Refused: 10, 20.
+    #[inline(always)]
     pub fn place(&self, task: u32) -> Result<Place, Refusal>
         ensures { result ≡ place_told (view M.Memory Q.Queue self.now) task }
     {
@@ -34,6 +36,7 @@ impl<'a, M: Memory, Q: Queue> Lock<'a, M, Q> {
     }
 
     // The right that a task has, none where it is not inside. Refused: 10, 20.
+    #[inline(always)]
     pub fn right(&self, task: u32) -> Result<Option<Right>, Refusal>
         ensures { result ≡ right_told (view M.Memory Q.Queue self.now) task }
     {
