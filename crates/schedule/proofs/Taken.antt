@@ -1,18 +1,17 @@
 -- A pass that was taken, and what is done with it.
-use Rattle.std.proofs.Common.{◌≡◌, ℕ, true, false, None, Err, Option, Result, refl, ap, ◌∙◌}
+use Rattle.std.proofs.Common.{◌≡◌, ℕ, true, false, None, Ok, Err, Option, Result, refl, ap, ◌∙◌}
 use Rattle.memory.specs.declared.interface.Memory.{Ghosts as MemoryGhosts}
 use Rattle.queue.specs.declared.interface.Queue.{Ghosts as QueueGhosts}
 use Rattle.lines.specs.declared.place.Right.{Right}
 use Rattle.calls.specs.declared.refusal.Refusal.{Refusal}
 use Rattle.calls.specs.Questions.{pass_refusal, task_refusal}
-use Rattle.calls.specs.Told.{told}
 use Rattle.calls.specs.Steps.{Call, done, gives, hands, lay_back, no, take}
 use Rattle.calls.specs.Steps as calls
-use Rattle.calls.proofs.Obeyed.{call_refused, call_same, same_task, Taken, taken, told_all}
+use Rattle.calls.proofs.Obeyed.{call_refused, call_same, same_task, Taken, taken}
 use Rattle.lock.specs.declared.locks.Lock.{Lock}
+use Rattle.lock.specs.Answers.{row_told, said}
 use Rattle.lock.specs.View.{Does, view}
-use Rattle.listing.specs.declared.answer.Answer.{Answer}
-use Rattle.schedule.specs.Answers.{row_shown, task_shown, TakesAndUses}
+use Rattle.schedule.specs.Answers.{row_telling, task_shown, telling, TakesAndUses}
 
 module _ {M Q : Type 0} (mem : MemoryGhosts M) (que : QueueGhosts Q) (w : Right) (t : ℕ) (c : Right → ℕ → ℕ → Call) (l : Lock M Q) where
   module _ (k u : ℕ) (m n : Lock M Q) (took : Does mem que (take w t) l (hands w k u) m) where
@@ -32,21 +31,19 @@ module _ {M Q : Type 0} (mem : MemoryGhosts M) (que : QueueGhosts Q) (w : Right)
     out_at_first = pass.out
 
     -- the call spent it
-    pub used_up : (r : Result Answer Refusal) → Does mem que (c w k u) m done n → r ≡ told (task_refusal (view mem que n) t) (task_shown (view mem que n) t) → TakesAndUses mem que w t true c l r n
-    used_up r made says = (hands w k u, m, took, (done, n, made, refl, says ∙ told_all _ _ (still_there done made)))
+    pub used_up : Does mem que (c w k u) m done n → TakesAndUses mem que w t true c l (Ok (task_shown (view mem que n) t)) n
+    used_up made = (hands w k u, m, took, (done, n, made, refl, refl))
 
     -- the call was refused, and the pass is laid back
     pub came_back : (e : Refusal) (l' : Lock M Q) → Does mem que (c w k u) m (no e) n → Does mem que (lay_back w k u) n done l' → TakesAndUses mem que w t true c l (Err e) l'
     came_back e l' made laid = (hands w k u, m, took, (no e, n, made, laid, refl))
 
     -- the call only showed it, and it is laid back
-    pub showed : (row : Option ℕ) (r : Result Answer Refusal) → Does mem que (c w k u) m (gives row) m → Does mem que (lay_back w k u) m done n → r ≡ told (task_refusal (view mem que n) t) (row_shown (view mem que n) t row) → TakesAndUses mem que w t false c l r n
-    showed row r made laid says =
-        let there = same_task (view mem que m) (view mem que n) t (call_same mem.does mem.limit (view mem que m) (view mem que n) m.memory n.memory (lay_back w k u) done laid.0) pass.there in
-        (hands w k u, m, took, (gives row, m, made, laid, says ∙ told_all _ _ there))
+    pub showed : (r : Result (Option ℕ) Refusal) → Does mem que (c w k u) m (row_told r) m → Does mem que (lay_back w k u) m done n → TakesAndUses mem que w t false c l (row_telling r (view mem que n) t) n
+    showed (Ok row) made laid = (hands w k u, m, took, (gives row, m, made, laid, refl))
+    showed (Err e) made laid = (hands w k u, m, took, (no e, m, made, laid, refl))
 
     -- or it gave nothing but that it was obeyed
-    pub showed_and_did : (r : Result Answer Refusal) (l' : Lock M Q) → Does mem que (c w k u) m done n → Does mem que (lay_back w k u) n done l' → r ≡ told (task_refusal (view mem que l') t) (task_shown (view mem que l') t) → TakesAndUses mem que w t false c l r l'
-    showed_and_did r l' made laid says =
-        let there = same_task (view mem que n) (view mem que l') t (call_same mem.does mem.limit (view mem que n) (view mem que l') n.memory l'.memory (lay_back w k u) done laid.0) (still_there done made) in
-        (hands w k u, m, took, (done, n, made, laid, says ∙ told_all _ _ there))
+    pub showed_and_did : (r : Result (Unit {0}) Refusal) (l' : Lock M Q) → Does mem que (c w k u) m (said r) n → Does mem que (lay_back w k u) n done l' → TakesAndUses mem que w t false c l (telling r (task_shown (view mem que l') t)) l'
+    showed_and_did (Ok _) l' made laid = (hands w k u, m, took, (done, n, made, laid, refl))
+    showed_and_did (Err e) l' made laid = (hands w k u, m, took, (no e, n, made, laid, refl))

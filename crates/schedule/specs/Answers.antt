@@ -11,6 +11,7 @@ use Rattle.lines.specs.Rights.{right_of}
 use Rattle.calls.specs.declared.record.Record.{Record}
 use Rattle.calls.specs.declared.refusal.Refusal.{Refusal}
 use Rattle.calls.specs.declared.refusal.Refusal.TheVariants.{Outside}
+use Rattle.calls.specs.Questions.{task_refusal}
 use Rattle.calls.specs.States.{State, record_of}
 use Rattle.calls.specs.Told.{right_told}
 use Rattle.calls.specs.Steps.{Call}
@@ -24,6 +25,8 @@ use Rattle.listing.specs.declared.answer.Place.TheVariants as shown
 use Rattle.listing.specs.declared.answer.Answer.{Answer}
 use Rattle.listing.specs.declared.answer.Answer.TheVariants.{Moved, Row}
 use Rattle.listing.specs.declared.answer.Answer.TheVariants as answer
+use Rattle.schedule.specs.declared.answers.Done.{Done}
+use Rattle.schedule.specs.declared.answers.Done.TheVariants as done
 
 -- r and w tell the right, a line its number; a task without a right and a line is at rest
 abbrev pub place_shown : Place → Option Right → Shown
@@ -55,6 +58,28 @@ answered (calls.no e) s t = Err e
 abbrev pub telling : Result (Unit {0}) Refusal → Answer → Result Answer Refusal
 telling (Ok _) a = Ok a
 telling (Err e) a = Err e
+
+-- an obeyed call that gave a row
+abbrev pub row_telling : Result (Option ℕ) Refusal → State → ℕ → Result Answer Refusal
+row_telling (Ok row) s t = Ok (row_shown s t row)
+row_telling (Err e) s t = Err e
+
+-- what is told of an obeyed call, in the state that it left
+abbrev pub done_shown : State → Done → Answer
+done_shown s (done.Opened n) = answer.Opened n
+done_shown s (done.Moved t) = task_shown s t
+done_shown s (done.Row t row) = row_shown s t row
+
+abbrev pub done_telling : Result Done Refusal → State → Result Answer Refusal
+done_telling (Ok d) s = Ok (done_shown s d)
+done_telling (Err e) s = Err e
+
+-- the task of an obeyed call is there
+abbrev pub IsThere : State → Result Done Refusal → Type 0
+IsThere s (Ok (done.Opened n)) = Unit {0}
+IsThere s (Ok (done.Moved t)) = task_refusal s t ≡ None
+IsThere s (Ok (done.Row t row)) = task_refusal s t ≡ None
+IsThere s (Err e) = Unit {0}
 
 -- whether the pass is left by a call that gave this answer: a call that spends it leaves it only where it is refused
 abbrev pub is_left : Bool → calls.Answer → Bool

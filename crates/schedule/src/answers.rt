@@ -5,7 +5,7 @@ ghost use Rattle.calls.specs.Questions.{task_refusal};
 ghost use Rattle.calls.specs.Told.{told};
 ghost use Rattle.lock.specs.View.{view};
 ghost use Rattle.script.specs.Calls.{ask};
-ghost use Rattle.schedule.specs.Answers.{OpensTo, Tells, place_shown, row_shown, task_shown};
+ghost use Rattle.schedule.specs.Answers.{IsThere, OpensTo, Tells, done_telling, place_shown, row_shown, task_shown};
 
 use crate::passes::{downgrade, leave, put, read, upgrade};
 use cache::layer::Cache;
@@ -30,10 +30,7 @@ fn shown(place: Place, right: Option<Right>) -> Shown
 }
 
 // The place and the cost of a task.
-pub(crate) fn moved<M: Memory, Q: Queue>(
-    lock: &Lock<'_, M, Q>,
-    task: u32,
-) -> Result<Answer, Refusal>
+fn moved<M: Memory, Q: Queue>(lock: &Lock<'_, M, Q>, task: u32) -> Result<Answer, Refusal>
     ensures { result ≡ told (task_refusal (view M.Memory Q.Queue lock.now) task) (task_shown (view M.Memory Q.Queue lock.now) task) }
 {
     let place = lock.place(task)?;
@@ -43,7 +40,7 @@ pub(crate) fn moved<M: Memory, Q: Queue>(
 }
 
 // The same, and what a row gave.
-pub(crate) fn row_told<M: Memory, Q: Queue>(
+fn row_told<M: Memory, Q: Queue>(
     lock: &Lock<'_, M, Q>,
     task: u32,
     row: Option<u32>,
@@ -56,16 +53,66 @@ pub(crate) fn row_told<M: Memory, Q: Queue>(
     Ok(Answer::Row(shown(place, right), account.cost, row))
 }
 
-// Open, and how many tasks there then are.
+// What an obeyed call has to tell.
+#[derive(Clone, Copy)]
+enum Done {
+    // how many tasks there then are
+    Opened(u32),
+    // where this task then is
+    Moved(u32),
+    // the same, and what a row gave
+    Row(u32, Option<u32>),
+}
+
+// Opens the lock. (Apart from the other calls, since a schedule opens seldom and the new records need much room.)
 #[inline(never)]
 fn open<B: Memory, Q: Queue>(
     lock: &mut Lock<'_, Cache<B>, Q>,
     roles: &[u8],
-) -> Result<Answer, Refusal>
-    ensures { OpensTo (cached B.Memory) Q.Queue roles.now lock.old result lock.new }
+) -> Result<Done, Refusal>
+    ensures tells { OpensTo (cached B.Memory) Q.Queue roles.now lock.old (done_telling result (view (cached B.Memory) Q.Queue lock.new)) lock.new }
+    ensures there { IsThere (view (cached B.Memory) Q.Queue lock.new) result }
 {
     lock.open_cached(roles)?;
-    Ok(Answer::Opened(roles.len() as u32))
+    Ok(Done::Opened(roles.len() as u32))
+}
+
+// Makes the call to this lock.
+fn make<B: Memory, Q: Queue>(
+    lock: &mut Lock<'_, Cache<B>, Q>,
+    call: Call<'_>,
+) -> Result<Done, Refusal>
+    ensures tells { Tells (cached B.Memory) Q.Queue lock.old (ask call.entry) (done_telling result (view (cached B.Memory) Q.Queue lock.new)) lock.new }
+    ensures there { IsThere (view (cached B.Memory) Q.Queue lock.new) result }
+{
+    match call {
+        Call::Open(_, _, roles) => open(lock, roles),
+        Call::Begin(task) => {
+            lock.begin(task)?;
+            Ok(Done::Moved(task))
+        }
+        Call::Advance(task) => {
+            lock.advance(task)?;
+            Ok(Done::Moved(task))
+        }
+        Call::Upgrade(task) => {
+            upgrade(lock, task)?;
+            Ok(Done::Moved(task))
+        }
+        Call::Downgrade(task) => {
+            downgrade(lock, task)?;
+            Ok(Done::Moved(task))
+        }
+        Call::Leave(task) => {
+            leave(lock, task)?;
+            Ok(Done::Moved(task))
+        }
+        Call::Read(task, row) => Ok(Done::Row(task, read(lock, task, row)?)),
+        Call::Put(task, row, thickness) => {
+            put(lock, task, row, thickness)?;
+            Ok(Done::Moved(task))
+        }
+    }
 }
 
 // What the call answers, made to this lock.
@@ -75,20 +122,9 @@ pub(crate) fn answer<B: Memory, Q: Queue>(
 ) -> Result<Answer, Refusal>
     ensures { Tells (cached B.Memory) Q.Queue lock.old (ask call.entry) result lock.new }
 {
-    match call {
-        Call::Open(_, _, roles) => open(lock, roles),
-        Call::Begin(task) => {
-            lock.begin(task)?;
-            moved(lock, task)
-        }
-        Call::Advance(task) => {
-            lock.advance(task)?;
-            moved(lock, task)
-        }
-        Call::Upgrade(task) => upgrade(lock, task),
-        Call::Downgrade(task) => downgrade(lock, task),
-        Call::Leave(task) => leave(lock, task),
-        Call::Read(task, row) => read(lock, task, row),
-        Call::Put(task, row, thickness) => put(lock, task, row, thickness),
+    match make(lock, call)? {
+        Done::Opened(tasks) => Ok(Answer::Opened(tasks)),
+        Done::Moved(task) => moved(lock, task),
+        Done::Row(task, row) => row_told(lock, task, row),
     }
 }

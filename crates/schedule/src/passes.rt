@@ -1,16 +1,15 @@
-// The calls of a schedule that need a pass: it is taken first, and what is left of it is laid back.
-ghost use Rattle.std.specs.Prelude.{◌≡◌, true, false, None as nothing};
+// The calls of a schedule that need a pass: it is taken first, and what is left of it is laid back. A call that is
+// obeyed leaves the task there.
+ghost use Rattle.std.specs.Prelude.{◌≡◌, true, false, OnOk, None as nothing};
 ghost use Rattle.lines.specs.declared.place.Right.TheVariants.{Reading as reading, Writing as writing};
-ghost use Rattle.calls.specs.Questions.{pass_refusal};
+ghost use Rattle.calls.specs.Questions.{pass_refusal, task_refusal};
 ghost use Rattle.calls.specs.Steps.{done, downgrade as line_downgrade, lay_back, leave as line_leave, put as row_put, read as row_read, upgrade as line_upgrade};
 ghost use Rattle.calls.specs.Told.{right_told};
 ghost use Rattle.lock.specs.View.{Does, view};
-ghost use Rattle.schedule.specs.Answers.{ByRight, TakesAndUses};
+ghost use Rattle.schedule.specs.Answers.{ByRight, TakesAndUses, row_telling, task_shown, telling};
 
-use crate::answers::{moved, row_told};
 use calls::refusal::Refusal;
 use lines::place::Right;
-use listing::answer::Answer;
 use lock::locks::Lock;
 use lock::pass::{Bears, Kept, Pass, Reading, Writing};
 use memory::interface::Memory;
@@ -27,16 +26,17 @@ fn put_back<M: Memory, Q: Queue, R: Bears>(lock: &mut Lock<'_, M, Q>, pass: Pass
     }
 }
 
-// Upgrade, and where the task then is.
+// Upgrade.
 pub(crate) fn upgrade<M: Memory, Q: Queue>(
     lock: &mut Lock<'_, M, Q>,
     task: u32,
-) -> Result<Answer, Refusal>
-    ensures { TakesAndUses M.Memory Q.Queue reading task true (λ w. line_upgrade) lock.old result lock.new }
+) -> Result<(), Refusal>
+    ensures does { TakesAndUses M.Memory Q.Queue reading task true (λ w. line_upgrade) lock.old (telling result (task_shown (view M.Memory Q.Queue lock.new) task)) lock.new }
+    ensures there { OnOk result (task_refusal (view M.Memory Q.Queue lock.new) task ≡ nothing) }
 {
     let pass = lock.take::<Reading>(task)?;
     match lock.upgrade(pass) {
-        Ok(()) => moved(lock, task),
+        Ok(()) => Ok(()),
         Err(kept) => {
             let Kept { pass, why } = kept;
             put_back(lock, pass);
@@ -45,16 +45,17 @@ pub(crate) fn upgrade<M: Memory, Q: Queue>(
     }
 }
 
-// Downgrade, and where the task then is.
+// Downgrade.
 pub(crate) fn downgrade<M: Memory, Q: Queue>(
     lock: &mut Lock<'_, M, Q>,
     task: u32,
-) -> Result<Answer, Refusal>
-    ensures { TakesAndUses M.Memory Q.Queue writing task true (λ w. line_downgrade) lock.old result lock.new }
+) -> Result<(), Refusal>
+    ensures does { TakesAndUses M.Memory Q.Queue writing task true (λ w. line_downgrade) lock.old (telling result (task_shown (view M.Memory Q.Queue lock.new) task)) lock.new }
+    ensures there { OnOk result (task_refusal (view M.Memory Q.Queue lock.new) task ≡ nothing) }
 {
     let pass = lock.take::<Writing>(task)?;
     match lock.downgrade(pass) {
-        Ok(()) => moved(lock, task),
+        Ok(()) => Ok(()),
         Err(kept) => {
             let Kept { pass, why } = kept;
             put_back(lock, pass);
@@ -63,16 +64,17 @@ pub(crate) fn downgrade<M: Memory, Q: Queue>(
     }
 }
 
-// Leave with a pass for this right, and where the task then is.
+// Leave with a pass for this right.
 fn leave_with<M: Memory, Q: Queue, R: Bears>(
     lock: &mut Lock<'_, M, Q>,
     task: u32,
-) -> Result<Answer, Refusal>
-    ensures { TakesAndUses M.Memory Q.Queue R.right task true line_leave lock.old result lock.new }
+) -> Result<(), Refusal>
+    ensures does { TakesAndUses M.Memory Q.Queue R.right task true line_leave lock.old (telling result (task_shown (view M.Memory Q.Queue lock.new) task)) lock.new }
+    ensures there { OnOk result (task_refusal (view M.Memory Q.Queue lock.new) task ≡ nothing) }
 {
     let pass = lock.take::<R>(task)?;
     match lock.leave(pass) {
-        Ok(()) => moved(lock, task),
+        Ok(()) => Ok(()),
         Err(kept) => {
             let Kept { pass, why } = kept;
             put_back(lock, pass);
@@ -85,8 +87,9 @@ fn leave_with<M: Memory, Q: Queue, R: Bears>(
 pub(crate) fn leave<M: Memory, Q: Queue>(
     lock: &mut Lock<'_, M, Q>,
     task: u32,
-) -> Result<Answer, Refusal>
-    ensures { ByRight M.Memory Q.Queue (right_told (view M.Memory Q.Queue lock.old) task) task true line_leave lock.old result lock.new }
+) -> Result<(), Refusal>
+    ensures does { ByRight M.Memory Q.Queue (right_told (view M.Memory Q.Queue lock.old) task) task true line_leave lock.old (telling result (task_shown (view M.Memory Q.Queue lock.new) task)) lock.new }
+    ensures there { OnOk result (task_refusal (view M.Memory Q.Queue lock.new) task ≡ nothing) }
 {
     match lock.right(task)? {
         Some(Right::Reading) => leave_with::<M, Q, Reading>(lock, task),
@@ -100,13 +103,14 @@ fn read_with<M: Memory, Q: Queue, R: Bears>(
     lock: &mut Lock<'_, M, Q>,
     task: u32,
     row: u32,
-) -> Result<Answer, Refusal>
-    ensures { TakesAndUses M.Memory Q.Queue R.right task false (λ w k u. row_read w k u row) lock.old result lock.new }
+) -> Result<Option<u32>, Refusal>
+    ensures does { TakesAndUses M.Memory Q.Queue R.right task false (λ w k u. row_read w k u row) lock.old (row_telling result (view M.Memory Q.Queue lock.new) task) lock.new }
+    ensures there { OnOk result (task_refusal (view M.Memory Q.Queue lock.new) task ≡ nothing) }
 {
     let pass = lock.take::<R>(task)?;
     let given = lock.read(&pass, row as usize);
     put_back(lock, pass);
-    row_told(lock, task, given?)
+    given
 }
 
 // A row, by whichever pass the task has.
@@ -114,8 +118,9 @@ pub(crate) fn read<M: Memory, Q: Queue>(
     lock: &mut Lock<'_, M, Q>,
     task: u32,
     row: u32,
-) -> Result<Answer, Refusal>
-    ensures { ByRight M.Memory Q.Queue (right_told (view M.Memory Q.Queue lock.old) task) task false (λ w k u. row_read w k u row) lock.old result lock.new }
+) -> Result<Option<u32>, Refusal>
+    ensures does { ByRight M.Memory Q.Queue (right_told (view M.Memory Q.Queue lock.old) task) task false (λ w k u. row_read w k u row) lock.old (row_telling result (view M.Memory Q.Queue lock.new) task) lock.new }
+    ensures there { OnOk result (task_refusal (view M.Memory Q.Queue lock.new) task ≡ nothing) }
 {
     match lock.right(task)? {
         Some(Right::Reading) => read_with::<M, Q, Reading>(lock, task, row),
@@ -124,18 +129,18 @@ pub(crate) fn read<M: Memory, Q: Queue>(
     }
 }
 
-// A thickness into a row, by a writing pass, and where the task then is.
+// A thickness into a row, by a writing pass.
 pub(crate) fn put<M: Memory, Q: Queue>(
     lock: &mut Lock<'_, M, Q>,
     task: u32,
     row: u32,
     thickness: u32,
-) -> Result<Answer, Refusal>
-    ensures { TakesAndUses M.Memory Q.Queue writing task false (λ w k u. row_put k u row thickness) lock.old result lock.new }
+) -> Result<(), Refusal>
+    ensures does { TakesAndUses M.Memory Q.Queue writing task false (λ w k u. row_put k u row thickness) lock.old (telling result (task_shown (view M.Memory Q.Queue lock.new) task)) lock.new }
+    ensures there { OnOk result (task_refusal (view M.Memory Q.Queue lock.new) task ≡ nothing) }
 {
     let pass = lock.take::<Writing>(task)?;
     let made = lock.put(&pass, row as usize, thickness);
     put_back(lock, pass);
-    made?;
-    moved(lock, task)
+    made
 }

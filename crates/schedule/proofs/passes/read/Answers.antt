@@ -5,15 +5,15 @@ use Rattle.calls.specs.declared.refusal.Refusal.{Refusal}
 use Rattle.calls.specs.Steps.{read}
 use Rattle.calls.specs.Told.{right_told}
 use Rattle.lock.specs.View.{view}
-use Rattle.schedule.specs.Answers.{ByRight}
+use Rattle.schedule.specs.Answers.{ByRight, row_telling}
 use Rattle.schedule.proofs.passes.read.Goals as goal
 
-pub returns-in-Some-Reading : goal.returns-in-Some-Reading
-returns-in-Some-Reading g c =
+pub returns-in-Some-Reading-clause-does : goal.returns-in-Some-Reading-clause-does
+returns-in-Some-Reading-clause-does g c =
     let has : ◌≡◌ {A = Result (Option Right) Refusal} (Ok (Some Reading)) (right_told (view g.M.Memory g.Q.Queue c.args.lock.now) c.args.task) = search rules in
-    subst (λ has. ByRight g.M.Memory g.Q.Queue has c.args.task false (λ w k u. read w k u c.args.row) c.args.lock.now c.read_with.result c.read_with.new.lock) has c.read_with.ensures
+    subst (λ has. ByRight g.M.Memory g.Q.Queue has c.args.task false (λ w k u. read w k u c.args.row) c.args.lock.now (row_telling c.read_with.result (view g.M.Memory g.Q.Queue c.read_with.new.lock) c.args.task) c.read_with.new.lock) has c.read_with.ensures.does
 
-pub returns-in-Some-Writing : goal.returns-in-Some-Writing
-returns-in-Some-Writing g c =
+pub returns-in-Some-Writing-clause-does : goal.returns-in-Some-Writing-clause-does
+returns-in-Some-Writing-clause-does g c =
     let has : ◌≡◌ {A = Result (Option Right) Refusal} (Ok (Some Writing)) (right_told (view g.M.Memory g.Q.Queue c.args.lock.now) c.args.task) = search rules in
-    subst (λ has. ByRight g.M.Memory g.Q.Queue has c.args.task false (λ w k u. read w k u c.args.row) c.args.lock.now c.read_with-in-Some-Writing.result c.read_with-in-Some-Writing.new.lock) has c.read_with-in-Some-Writing.ensures
+    subst (λ has. ByRight g.M.Memory g.Q.Queue has c.args.task false (λ w k u. read w k u c.args.row) c.args.lock.now (row_telling c.read_with-in-Some-Writing.result (view g.M.Memory g.Q.Queue c.read_with-in-Some-Writing.new.lock) c.args.task) c.read_with-in-Some-Writing.new.lock) has c.read_with-in-Some-Writing.ensures.does
