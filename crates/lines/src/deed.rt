@@ -24,6 +24,7 @@ pub enum Found {
 
 impl Found {
     // The number, and 0 where none was found (so it is no conversion).
+    #[inline(always)]
     pub(crate) fn number(self) -> u32
         ensures { result ≡ number_found self }
     {

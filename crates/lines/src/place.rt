@@ -95,6 +95,7 @@ pub enum Line {
 
 impl Line {
     // Ten times the published number: a cast by name and no `From`, since two lines share one number.
+    #[inline(always)]
     pub fn tenfold(self) -> u32
         ensures { result ≡ tenfold self }
     {

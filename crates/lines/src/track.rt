@@ -42,6 +42,7 @@ impl Track {
     }
 
     // The right that the task has, which it has only inside.
+    #[inline(always)]
     pub fn right(&self) -> Option<Right>
         ensures { result ≡ right_of self.now }
     {
@@ -54,6 +55,7 @@ impl Track {
     }
 
     // The one deed of the next line, for the task with this number.
+    #[inline(always)]
     pub fn deed(&self, task: u32) -> Deed
         ensures { result ≡ next_deed task self.now }
     {

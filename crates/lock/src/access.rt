@@ -9,6 +9,7 @@ use calls::record::Record;
 
 impl Records {
     // How many tasks there are.
+    #[inline(always)]
     pub(crate) fn count(&self) -> u32
         ensures { result ≡ length (records_of self.now) }
     {
@@ -24,6 +25,7 @@ impl Records {
     }
 
     // The task with this number, if there is one.
+    #[inline(always)]
     pub(crate) fn get(&self, number: u32) -> Option<Task>
         ensures { Among (records_of self.now) number result }
     {
@@ -37,6 +39,7 @@ impl Records {
     }
 
     // The task's record is this from now on.
+    #[inline(always)]
     pub(crate) fn put(&mut self, task: Task)
         ensures is { records_of self.new ≡ slice_set (records_of self.old) (task.number - 1) task.state }
         ensures count { length (records_of self.new) ≡ length (records_of self.old) }

@@ -50,7 +50,6 @@ impl<'a, M: Memory, Q: Queue> Lock<'a, M, Q> {
     }
 
     // The same where the call has moved the task to the line: its record is put in place once the deed is done.
-    #[inline(always)]
     pub(crate) fn do_line(&mut self, ready: ReadyTask) -> Result<(), Refusal>
         requires { ready.task.number ≤ length (records_of self.old.records) }
         ensures { CarriesOut M.Memory Q.Queue (line ready.task.number ready.task.state) self.old (said result) self.new }

@@ -65,6 +65,7 @@ impl Task {
 
 impl<'a, M: Memory, Q: Queue> Lock<'a, M, Q> {
     // The task that a pass names, where such a pass is out to it. Refused: 10, 27, 28.
+    #[inline(always)]
     pub(crate) fn holder<R: Bears>(&self, pass: &Pass<R>) -> Result<Task, Refusal>
         ensures { let r = record_at (records_of self.now.records) pass.now.task in Given (pass_refusal (view M.Memory Q.Queue self.now) R.right pass.now.lock pass.now.task) pass.now.task r result ((pass.now.task ≤ length (records_of self.now.records)) × (out_for r.out R.right ≡ true)) }
     {

@@ -13,6 +13,7 @@ use queue::interface::Queue;
 
 impl<'a, M: Memory, Q: Queue> Lock<'a, M, Q> {
     // Whether the lock is open: one without tasks is closed.
+    #[inline(always)]
     pub(crate) fn is_open(&self) -> bool
         ensures { result ≡ (view M.Memory Q.Queue self.now).opened }
     {

@@ -41,6 +41,7 @@ fn put_told(
 }
 
 // Makes the call at the desk, and writes the line `number` of the listing, which tells what came of it.
+#[inline(always)]
 fn put_call<W: Memory, P: Memory, R: Queue, K: Queue>(
     desk: &mut Desk<'_, '_, W, P, R, K>,
     call: Call<'_>,
