@@ -77,6 +77,7 @@ impl<M: Memory> Memory for Cache<M> {
         self.below.show(cell)
     }
 
+    #[inline(always)]
     fn read(&mut self, task: u32, cell: u32) -> Result<Reply<u32>, Refusal> {
         place(task, cell)?;
         let held = self.copies.masks[cell as usize];

@@ -31,10 +31,12 @@ impl<'a, M: Memory, Q: Queue> Lock<'a, M, Q> {
     pub(crate) fn find(&self, number: u32) -> Result<Task, Refusal>
         ensures { Given (task_refusal (view M.Memory Q.Queue self.now) number) number (record_at (records_of self.now.records) number) result (number ≤ length (records_of self.now.records)) }
     {
-        if !self.is_open() {
-            return Err(Refusal::Shut);
+        // the rare question last: a closed lock has no task
+        match self.records.get(number) {
+            Some(task) => Ok(task),
+            None if self.is_open() => Err(Refusal::NoTask),
+            None => Err(Refusal::Shut),
         }
-        self.records.get(number).ok_or(Refusal::NoTask)
     }
 
     // The task does its next line; its record is in place.
@@ -50,6 +52,7 @@ impl<'a, M: Memory, Q: Queue> Lock<'a, M, Q> {
     }
 
     // The same where the call has moved the task to the line: its record is put in place once the deed is done.
+    #[inline(always)]
     pub(crate) fn do_line(&mut self, ready: ReadyTask) -> Result<(), Refusal>
         requires { ready.task.number ≤ length (records_of self.old.records) }
         ensures { CarriesOut M.Memory Q.Queue (line ready.task.number ready.task.state) self.old (said result) self.new }
