@@ -19,7 +19,7 @@ fn marks_of_16(text: &[u8], mark: u8) -> u64
         .to_bitmask()
 }
 
-// Where the first `mark` stands, if it is one of the first 16 bytes, which are asked at once.
+// Where the first `mark` stands, if it is one of the first 16 bytes, which are asked at once; nothing where there are fewer.
 #[inline(always)]
 fn near(text: &[u8], mark: u8) -> Option<usize>
     ensures { IfSome result (λ at. (before mark text.now ≡ at) × (at < length text.now)) }
