@@ -1,5 +1,5 @@
 -- The digits at the front of a text, and the first of its fields.
-use Rattle.std.proofs.Common.{◌≡◌, ◌≢◌, ℕ, ◌+◌, ◌-◌, ◌<◌, ◌≤◌, Bool, true, false, Some, None, Option, Ok, Err, not, cond, eqb, List, [], ◌∷◌, length, min, get_or, take, drop, refl, sym, ap, ◌∙◌, one-add, add-zero, ◌==◌, length-drop, length-take, arith, inr, ⊎_elim}
+use Rattle.std.proofs.Common.{◌≡◌, ◌≢◌, ℕ, suc, ◌+◌, ◌-◌, ◌<◌, ◌≤◌, Bool, true, false, Some, None, Option, Ok, Err, not, cond, eqb, List, [], ◌∷◌, length, min, get_or, take, drop, refl, sym, ap, ◌∙◌, one-add, add-zero, ◌==◌, length-drop, length-take, arith, inl, inr, ⊎_elim}
 use Rattle.std.proofs.lemmas.Grind.{common_steps}
 use Rattle.std.proofs.lemmas.Bool.{cases_Bool, cases_eq, cases_lt, eqb-false, eqb-true, ne_eqb}
 use Rattle.std.proofs.lemmas.Bool.Decides.{nat_tests}
@@ -12,14 +12,14 @@ use Rattle.std.specs.Borrow.{Bor}
 use Rattle.script.specs.declared.refusal.Refusal.{Refusal}
 use Rattle.script.specs.Cuts.{before, fields, later_fields}
 use Rattle.script.specs.Fields.{PastSpace, left}
-use Rattle.script.specs.Numbers.{FrontNumeral, LedByNone, numeral, value_after}
+use Rattle.script.specs.Numbers.{FrontNumeral, LedByNone, LedByNumber, numeral, value_after}
 use Rattle.script.proofs.Pieces.{first_field}
 
 fits_front : (p : ℕ → Bool) (x : ℕ) (xs : List ℕ) (n : ℕ) → list_all p (take n xs) ≡ true → list_all p (take (cond (p x) (1 + n) 0) (x ∷ xs)) ≡ true
 fits_front p x xs n all = ⊎_elim (λ (yes : p x ≡ true). rw (yes, one-add) (grind (arith, common_steps))) (λ (no : p x ≡ false). rw no refl) (cases_Bool (p x))
 
 -- all of the elements that pass at the front do
-pub all_in_front : (p : ℕ → Bool) (xs : List ℕ) → list_all p (take (prefix_len p xs) xs) ≡ true
+all_in_front : (p : ℕ → Bool) (xs : List ℕ) → list_all p (take (prefix_len p xs) xs) ≡ true
 all_in_front p [] = refl
 all_in_front p (x ∷ xs) = fits_front p x xs (prefix_len p xs) (all_in_front p xs)
 
@@ -27,7 +27,7 @@ one_within : (x : ℕ) (a b : ℕ) → a ≤ b → cond (is_ascii_digit x) (1 + 
 one_within x a b le = grind (arith, nat_tests)
 
 -- no digit is a space
-pub digits_before_space : (xs : List ℕ) → prefix_len is_ascii_digit xs ≤ before 32 xs
+digits_before_space : (xs : List ℕ) → prefix_len is_ascii_digit xs ≤ before 32 xs
 digits_before_space [] = omega arith
 digits_before_space (x ∷ xs) = one_within x _ _ (digits_before_space xs)
 
@@ -40,7 +40,7 @@ front_of_rest : (xs : List ℕ) (k : ℕ) → get_or (drop k xs) 0 0 ≡ get_or 
 front_of_rest xs k = get_or-drop k xs 0 0 ∙ ap (λ n. get_or xs n 0) (add-zero k)
 
 -- the digits are the first field, where a space or nothing comes after them
-pub digits_first : (xs more : List ℕ) (k : ℕ) (rest : Option (Bor (List ℕ))) → k ≤ prefix_len is_ascii_digit xs → more ≡ drop k xs → PastSpace more (Ok rest) → fields xs ≡ take k xs ∷ left (record { rest = rest })
+digits_first : (xs more : List ℕ) (k : ℕ) (rest : Option (Bor (List ℕ))) → k ≤ prefix_len is_ascii_digit xs → more ≡ drop k xs → PastSpace more (Ok rest) → fields xs ≡ take k xs ∷ left (record { rest = rest })
 digits_first xs more k None is back none =
     let end : before 32 xs ≡ k = omega (arith, digits_before_space xs, prefix_len-le-length (λ x. not (x == 32)) xs, length-drop k xs, ap length back, ap length none) in
     let later = ap later_fields (sym back ∙ none) in
@@ -81,11 +81,11 @@ after_zero (x ∷ []) more e is back other = absurd (omega (arith, other.0, ap l
 after_zero (x ∷ y ∷ xs) more e is back other = rw is (zero_led y xs (λ space. other.1 (ap (λ ys. get_or ys 0 0) back ∙ space)))
 
 -- else the first field is no numeral
-pub other_after : (xs more : List ℕ) (n k : ℕ) (e : Refusal) → FrontNumeral xs n k → more ≡ drop k xs → PastSpace more (Err e) → LedByNone (fields xs)
-other_after xs more n k e front back other =
+pub other_after : (xs more : List ℕ) (n : ℕ) (e : Refusal) → FrontNumeral xs n more → PastSpace more (Err e) → LedByNone (fields xs)
+other_after xs more n e front other =
     ⊎_elim
-    (λ zero. after_zero xs more e zero.1 (back ∙ ap (λ i. drop i xs) zero.0) other)
-    (λ all. after_all_digits xs more k e all back other)
+    (λ zero. after_zero xs more e zero.1 (front.rest ∙ ap (λ i. drop i xs) zero.0) other)
+    (λ all. after_all_digits xs more front.count e all front.rest other)
     front.whole
 
 other_led : (x : ℕ) (xs : List ℕ) → is_ascii_digit x ≡ false → LedByNone (fields (x ∷ xs))
@@ -104,12 +104,31 @@ zero_within : (xs : List ℕ) → get_or xs 0 0 ≡ 48 → 1 ≤ prefix_len is_a
 zero_within [] is = absurd (omega arith)
 zero_within (x ∷ xs) is = rw is (omega arith)
 
-pub digits_within : (xs : List ℕ) (n k : ℕ) → FrontNumeral xs n k → k ≤ prefix_len is_ascii_digit xs
-digits_within xs n k front = ⊎_elim (λ zero. omega (arith, zero.0, zero_within xs zero.1)) (λ all. omega (arith, all)) front.whole
+digits_within : (xs more : List ℕ) (n : ℕ) (front : FrontNumeral xs n more) → front.count ≤ prefix_len is_ascii_digit xs
+digits_within xs more n front = ⊎_elim (λ zero. omega (arith, zero.0, zero_within xs zero.1)) (λ all. omega (arith, all)) front.whole
+
+-- a numeral, and a space or nothing after it
+pub led_by_number : (xs more : List ℕ) (n : ℕ) (rest : Option (Bor (List ℕ))) → FrontNumeral xs n more → PastSpace more (Ok rest) → LedByNumber (fields xs) n (left (record { rest = rest }))
+led_by_number xs more n rest front past = record {
+  field = take front.count xs;
+  parts = digits_first xs more front.count rest (digits_within xs more n front) front.rest past;
+  is = front.is;
+  says = front.says;
+}
+
+pub front_zero : (xs : List ℕ) → FrontNumeral (48 ∷ xs) 0 xs
+front_zero xs = record { count = 1; is = refl; says = refl; rest = refl; whole = inl (refl, refl) }
 
 -- a digit other than 0 and all digits after it
-pub front_numeral : (x : ℕ) (xs : List ℕ) (n k : ℕ) → is_ascii_digit x ≡ true → x ≢ 48 → k ≡ prefix_len is_ascii_digit xs → n ≡ min (value_after (x - 48) (take k xs)) 4294967296 → FrontNumeral (x ∷ xs) n (1 + k)
-front_numeral x xs n k digit ne is says =
-    let all : list_all is_ascii_digit (take k xs) ≡ true = rw is (all_in_front is_ascii_digit xs) in
+pub front_numeral : (x : ℕ) (xs more : List ℕ) (n : ℕ) → is_ascii_digit x ≡ true → x ≢ 48 → n ≡ min (value_after (x - 48) (take (prefix_len is_ascii_digit xs) xs)) 4294967296 → more ≡ drop (prefix_len is_ascii_digit xs) xs → FrontNumeral (x ∷ xs) n more
+front_numeral x xs more n digit ne says rest =
+    let k = prefix_len is_ascii_digit xs in
+    let all = all_in_front is_ascii_digit xs in
     let zero : x - 48 ≡ 0 + (x - 48) = omega arith in
-    record { is = rw one-add (grind (arith, nat_tests, common_steps)); says = rw one-add (says ∙ ap (λ m. min (value_after m (take k xs)) 4294967296) zero); whole = inr (rw digit (omega arith)) }
+    record {
+      count = suc k;
+      is = grind (arith, nat_tests, common_steps);
+      says = says ∙ ap (λ m. min (value_after m (take k xs)) 4294967296) zero;
+      rest = rest;
+      whole = inr (rw digit (omega arith));
+    }

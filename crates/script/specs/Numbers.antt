@@ -1,5 +1,5 @@
 -- Which fields are numbers, and what they say.
-use Rattle.std.specs.Prelude.{◌≡◌, ℕ, ◌+◌, ◌-◌, ◌*◌, Bool, true, false, cond, ◌&&◌, List, [], ◌∷◌, length, Ok, Err, Result, ◌==◌, nat_le, nat_lt, min, slice_index, take, ◌⊎◌}
+use Rattle.std.specs.Prelude.{◌≡◌, ℕ, ◌+◌, ◌-◌, ◌*◌, Bool, true, false, cond, ◌&&◌, List, [], ◌∷◌, length, Ok, Err, Result, ◌==◌, nat_le, nat_lt, min, slice_index, take, drop, ◌⊎◌}
 use Rattle.std.specs.Char.{is_ascii_digit}
 use Rattle.std.specs.List.{list_all, prefix_len}
 use Rattle.script.specs.declared.refusal.Refusal.{Refusal}
@@ -21,10 +21,12 @@ value ds = value_after 0 ds
 abbrev pub bounded : List ℕ → Result ℕ Refusal
 bounded ds = cond (nat_le (value ds) 4294967295) (Ok (value ds)) (Err why.Number)
 
--- the first count bytes of the text are a numeral, a 0 or all digits there; n is the number that it says, or 2 ^ 32 where it is larger
-pub record FrontNumeral (text : List ℕ) (n count : ℕ) : Type 0 where
+-- the first count bytes of the text are a numeral, a 0 or all digits there; n is the number that it says, or 2 ^ 32 where it is larger, and more stands after it
+pub record FrontNumeral (text : List ℕ) (n : ℕ) (more : List ℕ) : Type 0 where
+  pub count : ℕ
   pub is : numeral (take count text) ≡ true
   pub says : n ≡ min (value (take count text)) 4294967296
+  pub rest : more ≡ drop count text
   pub whole : ((count ≡ 1) × (slice_index text 0 ≡ 48)) ⊎ (count ≡ prefix_len is_ascii_digit text)
 
 -- the fields fs are a numeral and those that are left, gs; n is the number that it says, or 2 ^ 32 where it is larger

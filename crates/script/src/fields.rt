@@ -5,7 +5,7 @@ ghost use Rattle.script.specs.Cuts.{fields as parted};
 ghost use Rattle.script.specs.Fields.{left, Took, PastSpace, ended};
 
 use crate::refusal::Refusal;
-use crate::text::find;
+use memchr::memchr;
 
 #[derive(Clone, Copy)]
 pub(crate) struct Fields<'a> {
@@ -36,7 +36,7 @@ impl<'a> Fields<'a> {
         ensures { Took (left self.old) result (left self.new) }
     {
         let text = self.rest.ok_or(Refusal::Fields)?;
-        match find(text, b' ') {
+        match memchr(b' ', text) {
             Some(end) => {
                 self.rest = Some(&text[end + 1..]);
                 Ok(&text[..end])

@@ -1,6 +1,6 @@
 // Fields that are numbers. Whether each field is a numeral is asked of the whole
 // line before the size of any number, so the two questions are functions of their own.
-ghost use Rattle.std.specs.Prelude.{◌≡◌, min, take, MatchResult};
+ghost use Rattle.std.specs.Prelude.{◌≡◌, min, take, drop, MatchResult};
 ghost use Rattle.std.specs.Char.{is_ascii_digit};
 ghost use Rattle.std.specs.List.{prefix_len};
 ghost use Rattle.script.specs.declared.refusal.Refusal.TheVariants as why;
@@ -13,40 +13,39 @@ use crate::refusal::Refusal;
 // Larger than any number of 32 bits.
 const TOO_LARGE: u64 = 1 << 32;
 
-// The number that `front` and the digits at the front of `text` say, or `TOO_LARGE` where it is larger, and how many
-// those digits are.
+// The number that `front` and the digits at the front of `text` say, or `TOO_LARGE` where it is larger, and what
+// stands after those digits.
 // A loop, since `try_fold` would need a closure with a contract of its own, and `parse` of a `str` would have the
 // bytes checked as UTF-8 first.
 #[inline(always)]
-fn digits(front: u8, text: &[u8]) -> (u64, usize)
-    ensures value { result.0 ≡ min (value_after front (take result.1 text.now)) 4294967296 }
-    ensures count { result.1 ≡ prefix_len is_ascii_digit text.now }
+fn digits<'a>(front: u8, text: &'a [u8]) -> (u64, &'a [u8])
+    ensures value { result.0 ≡ min (value_after front (take (prefix_len is_ascii_digit text.now) text.now)) 4294967296 }
+    ensures rest { result.1.now ≡ drop (prefix_len is_ascii_digit text.now) text.now }
 {
     let mut n = front as u64;
     for (i, b) in text.iter().enumerate() {
         if !b.is_ascii_digit() {
-            return (n, i);
+            return (n, &text[i..]);
         }
         n = (10 * n + (*b - b'0') as u64).min(TOO_LARGE);
     }
-    (n, text.len())
+    (n, &text[text.len()..])
 }
 
 // The numeral at the front of `text`, a 0 or digits that begin with another: the number that it says, or `TOO_LARGE`
-// where it is larger, and how many digits it has. Refused: 41, where no digit stands there.
+// where it is larger, and what stands after it. Refused: 41, where no digit stands there.
 #[inline(always)]
-fn numeral(text: &[u8]) -> Result<(u64, usize), Refusal>
-    ensures { MatchResult result (λ p. FrontNumeral text.now p.0 p.1) (λ e. (prefix_len is_ascii_digit text.now ≡ 0) × (e ≡ why.Fields)) }
+fn numeral<'a>(text: &'a [u8]) -> Result<(u64, &'a [u8]), Refusal>
+    ensures { MatchResult result (λ p. FrontNumeral text.now p.0 p.1.now) (λ e. (prefix_len is_ascii_digit text.now ≡ 0) × (e ≡ why.Fields)) }
 {
     let (first, later) = text.split_first().ok_or(Refusal::Fields)?;
     if *first == b'0' {
-        return Ok((0, 1));
+        return Ok((0, later));
     }
     if !first.is_ascii_digit() {
         return Err(Refusal::Fields);
     }
-    let (n, more) = digits(*first - b'0', later);
-    Ok((n, 1 + more))
+    Ok(digits(*first - b'0', later))
 }
 
 impl Fields<'_> {
@@ -56,8 +55,7 @@ impl Fields<'_> {
         ensures { TookNumber (left self.old) result (left self.new) }
     {
         let text = self.rest.ok_or(Refusal::Fields)?;
-        let (n, count) = numeral(text)?;
-        let (_, more) = text.split_at(count);
+        let (n, more) = numeral(text)?;
         self.rest = past_space(more)?;
         Ok(n)
     }

@@ -67,6 +67,10 @@ fn numerals(rt: HostRuntime) {
             b"E 0999999999999999999999999",
             b"S 4294967296x",
             b"S 4294967296 ",
+            b"E 0x",
+            b"E 0 ",
+            b"R 0 00",
+            b"R 4294967296 x",
         ],
         41,
     );
@@ -140,6 +144,7 @@ fn accepted(rt: HostRuntime) {
     assert_eq!(rt; parse_line(b"D 2"), Ok(Line::Call(Call::Downgrade(2))));
     assert_eq!(rt; parse_line(b"L 3"), Ok(Line::Call(Call::Leave(3))));
     assert_eq!(rt; parse_line(b"R 4 15"), Ok(Line::Call(Call::Read(4, 15))));
+    assert_eq!(rt; parse_line(b"R 0 0"), Ok(Line::Call(Call::Read(0, 0))));
     assert_eq!(rt;
         parse_line(b"P 1 3 4200"),
         Ok(Line::Call(Call::Put(1, 3, 4200)))
@@ -164,6 +169,22 @@ fn lines(rt: HostRuntime) {
     let mut reader = Reader::new(b"\n");
     assert_eq!(rt; reader.next_line(), Some(b"".as_slice()));
     assert_eq!(rt; reader.next_line(), None);
+}
+
+// A line's end is looked for among 16 bytes at first: the last of them, one past them, and further on.
+#[test]
+fn long_lines(rt: HostRuntime) {
+    let mut reader = Reader::new(
+        b"0123456789abcde\n0123456789abcdef\n0123456789abcdef0123456789abcdef",
+    );
+    assert_eq!(rt; reader.next_line(), Some(b"0123456789abcde".as_slice()));
+    assert_eq!(rt; reader.next_line(), Some(b"0123456789abcdef".as_slice()));
+    assert_eq!(rt;
+        reader.next_line(),
+        Some(b"0123456789abcdef0123456789abcdef".as_slice())
+    );
+    assert_eq!(rt; reader.next_line(), None);
+    assert_eq!(rt; reader.number(), 3);
 }
 
 #[test]

@@ -1,6 +1,6 @@
-// Where a line or a field ends: at the first mark among some bytes. The last line
-// may end with the input, and then the place after it is the end of the input.
-ghost use Rattle.std.specs.Prelude.{◌≡◌, ◌<◌, ◌≤◌, ◌==◌, MatchOption, length, map, take};
+// Where a line ends: at the first byte 10. The last line may end with the input,
+// and then the place after it is the end of the input.
+ghost use Rattle.std.specs.Prelude.{◌≡◌, ◌<◌, ◌≤◌, ◌==◌, IfSome, length, map, take};
 ghost use Rattle.std.specs.Simd.Lanes.{mask_l};
 ghost use Rattle.script.specs.Cuts.{before};
 ghost use Rattle.script.specs.Reading.{LineAt};
@@ -19,21 +19,23 @@ fn marks_of_16(text: &[u8], mark: u8) -> u64
         .to_bitmask()
 }
 
-// Where the first `mark` of `text` stands. Most often it is near, so the first 16 bytes are asked at once.
+// Where the first `mark` stands, if it is one of the first 16 bytes, which are asked at once; nothing where there are fewer.
 #[inline(always)]
-pub(crate) fn find(text: &[u8], mark: u8) -> Option<usize>
-    ensures { MatchOption result (before mark text.now ≡ length text.now) (λ at. (before mark text.now ≡ at) × (at < length text.now)) }
+fn near(text: &[u8], mark: u8) -> Option<usize>
+    ensures { IfSome result (λ at. (before mark text.now ≡ at) × (at < length text.now)) }
 {
-    if text.len() >= 16 {
-        let marks = marks_of_16(text, mark);
-        if marks != 0 {
-            return Some(marks.trailing_zeros() as usize);
-        }
+    if text.len() < 16 {
+        return None;
     }
-    memchr(mark, text)
+    let marks = marks_of_16(text, mark);
+    if marks == 0 {
+        return None;
+    }
+    Some(marks.trailing_zeros() as usize)
 }
 
-// The line that begins at `at`, and where the next one begins; nothing at the end of the input.
+// The line that begins at `at`, and where the next one begins; nothing at the end of the input. Most lines are
+// short, so their end is looked for near by first.
 #[inline(always)]
 pub(crate) fn line_at<'a>(input: &'a [u8], at: usize) -> Option<(&'a [u8], usize)>
     requires { at ≤ length input.now }
@@ -43,7 +45,10 @@ pub(crate) fn line_at<'a>(input: &'a [u8], at: usize) -> Option<(&'a [u8], usize
     if rest.is_empty() {
         return None;
     }
-    match find(rest, b'\n') {
+    if let Some(end) = near(rest, b'\n') {
+        return Some((&rest[..end], at + end + 1));
+    }
+    match memchr(b'\n', rest) {
         Some(end) => Some((&rest[..end], at + end + 1)),
         None => Some((rest, input.len())),
     }
