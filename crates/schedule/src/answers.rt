@@ -33,9 +33,9 @@ fn shown(place: Place, right: Option<Right>) -> Shown
 fn moved<M: Memory, Q: Queue>(lock: &Lock<'_, M, Q>, task: u32) -> Result<Answer, Refusal>
     ensures { result ≡ told (task_refusal (view M.Memory Q.Queue lock.now) task) (task_shown (view M.Memory Q.Queue lock.now) task) }
 {
+    let account = lock.account(task)?;
     let place = lock.place(task)?;
     let right = lock.right(task)?;
-    let account = lock.account(task)?;
     Ok(Answer::Moved(shown(place, right), account.cost))
 }
 
@@ -47,9 +47,9 @@ fn row_told<M: Memory, Q: Queue>(
 ) -> Result<Answer, Refusal>
     ensures { result ≡ told (task_refusal (view M.Memory Q.Queue lock.now) task) (row_shown (view M.Memory Q.Queue lock.now) task row) }
 {
+    let account = lock.account(task)?;
     let place = lock.place(task)?;
     let right = lock.right(task)?;
-    let account = lock.account(task)?;
     Ok(Answer::Row(shown(place, right), account.cost, row))
 }
 
@@ -86,7 +86,10 @@ fn make<B: Memory, Q: Queue>(
     ensures there { IsThere (view (cached B.Memory) Q.Queue lock.new) result }
 {
     match call {
-        Call::Open(_, _, roles) => open(lock, roles),
+        Call::Open(_, _, roles) => {
+            let opened = open(lock, roles)?;
+            Ok(opened)
+        }
         Call::Begin(task) => {
             lock.begin(task)?;
             Ok(Done::Moved(task))
