@@ -43,10 +43,10 @@ fn put_told(
 // Makes the call at the desk, and writes the line `number` of the listing, which tells what came of it.
 #[inline(always)]
 fn put_call<W: Memory, P: Memory, R: Queue, K: Queue>(
-    desk: &mut Desk<'_, '_, W, P, R, K>,
-    call: Call<'_>,
     out: &mut [u8],
     number: u32,
+    desk: &mut Desk<'_, '_, W, P, R, K>,
+    call: Call<'_>,
 ) -> Option<usize>
     ensures { ToldInto (DeskTells W.Memory P.Memory R.Queue K.Queue) desk.old (ask call.entry) number out.old result desk.new out.new }
 {
@@ -55,17 +55,17 @@ fn put_call<W: Memory, P: Memory, R: Queue, K: Queue>(
 
 // Does what the line says, and writes the line `number` of the listing. A refusal of any layer goes up unchanged.
 pub(crate) fn obey<W: Memory, P: Memory, R: Queue, K: Queue>(
-    desk: &mut Desk<'_, '_, W, P, R, K>,
-    text: &[u8],
     out: &mut [u8],
     number: u32,
+    desk: &mut Desk<'_, '_, W, P, R, K>,
+    text: &[u8],
 ) -> Option<usize>
     ensures { ObeyedInto (DeskTells W.Memory P.Memory R.Queue K.Queue) desk.old text.now number out.old result desk.new out.new }
 {
     match parse_line(text) {
         Ok(Line::Blank) => Some(0),
         Ok(Line::Note(note)) => put_note(out, number, note),
-        Ok(Line::Call(call)) => put_call(desk, call, out, number),
+        Ok(Line::Call(call)) => put_call(out, number, desk, call),
         Err(why) => put_refusal(out, number, Refusal::from(why)),
     }
 }

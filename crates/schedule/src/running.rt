@@ -51,6 +51,6 @@ impl<'s, 'b, 'a, W: Memory, P: Memory, R: Queue, K: Queue> Schedule<'s, 'b, 'a, 
             return Ok(None);
         };
         let number = self.reader.number() as u32;
-        Ok(obey(&mut self.desk, text, out, number))
+        Ok(obey(out, number, &mut self.desk, text))
     }
 }
