@@ -21,7 +21,12 @@ impl Task {
     fn do_deed<M: Memory, Q: Queue>(self, memory: &mut M, queue: &mut Q) -> Result<Told, Refusal>
         ensures { Performed M.Memory Q.Queue memory.old queue.old self.number (next_deed self.number self.state.track) result memory.new queue.new }
     {
-        perform(memory, queue, self.number, self.state.track.deed(self.number))
+        perform(
+            memory,
+            queue,
+            self.number,
+            self.state.track.deed(self.number),
+        )
     }
 }
 
