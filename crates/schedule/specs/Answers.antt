@@ -64,6 +64,11 @@ abbrev pub row_telling : Result (Option ℕ) Refusal → State → ℕ → Resul
 row_telling (Ok row) s t = Ok (row_shown s t row)
 row_telling (Err e) s t = Err e
 
+-- an opening to so many tasks
+abbrev pub opened_telling : Result ℕ Refusal → Result Answer Refusal
+opened_telling (Ok n) = Ok (answer.Opened n)
+opened_telling (Err e) = Err e
+
 -- what is told of an obeyed call, in the state that it left
 abbrev pub done_shown : State → Done → Answer
 done_shown s (done.Opened n) = answer.Opened n

@@ -5,7 +5,7 @@ ghost use Rattle.calls.specs.Questions.{task_refusal};
 ghost use Rattle.calls.specs.Told.{told};
 ghost use Rattle.lock.specs.View.{view};
 ghost use Rattle.script.specs.Calls.{ask};
-ghost use Rattle.schedule.specs.Answers.{IsThere, OpensTo, Tells, done_telling, place_shown, row_shown, task_shown};
+ghost use Rattle.schedule.specs.Answers.{IsThere, OpensTo, Tells, done_telling, opened_telling, place_shown, row_shown, task_shown};
 
 use crate::passes::{downgrade, leave, put, read, upgrade};
 use cache::layer::Cache;
@@ -64,17 +64,14 @@ enum Done {
     Row(u32, Option<u32>),
 }
 
-// Opens the lock. (Apart from the other calls, since a schedule opens seldom and the new records need much room.)
+// Opens the lock, and tells how many tasks there then are. (Apart from the other calls, since a schedule opens seldom and
+// the new records need much room.)
 #[inline(never)]
-fn open<B: Memory, Q: Queue>(
-    lock: &mut Lock<'_, Cache<B>, Q>,
-    roles: &[u8],
-) -> Result<Done, Refusal>
-    ensures tells { OpensTo (cached B.Memory) Q.Queue roles.now lock.old (done_telling result (view (cached B.Memory) Q.Queue lock.new)) lock.new }
-    ensures there { IsThere (view (cached B.Memory) Q.Queue lock.new) result }
+fn open<B: Memory, Q: Queue>(lock: &mut Lock<'_, Cache<B>, Q>, roles: &[u8]) -> Result<u32, Refusal>
+    ensures { OpensTo (cached B.Memory) Q.Queue roles.now lock.old (opened_telling result) lock.new }
 {
     lock.open_cached(roles)?;
-    Ok(Done::Opened(roles.len() as u32))
+    Ok(roles.len() as u32)
 }
 
 // Makes the call to this lock.
@@ -87,8 +84,8 @@ fn make<B: Memory, Q: Queue>(
 {
     match call {
         Call::Open(_, _, roles) => {
-            let opened = open(lock, roles)?;
-            Ok(opened)
+            let tasks = open(lock, roles)?;
+            Ok(Done::Opened(tasks))
         }
         Call::Begin(task) => {
             lock.begin(task)?;
