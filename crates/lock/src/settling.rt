@@ -32,16 +32,16 @@ fn arrive(account: &mut Account, place: Place)
     }
 }
 
-// The task of this record did its next line, and this is what was told of it.
+// The task with this record did its next line, and this is what was told of it.
 #[inline(always)]
-fn settle_one(record: &mut Record, told: Told)
-    requires ordered { in_order record.old ≡ true }
-    requires on_line { advance_refusal record.old ≡ None }
-    ensures { record.new ≡ settled record.old told.found told.share }
+fn settle_one(state: &mut Record, told: Told)
+    requires ordered { in_order state.old ≡ true }
+    requires on_line { advance_refusal state.old ≡ None }
+    ensures { state.new ≡ settled state.old told.found told.share }
 {
-    record.track.step(told.found);
-    record.account.charge(told.share);
-    arrive(&mut record.account, record.track.place);
+    state.track.step(told.found);
+    state.account.charge(told.share);
+    arrive(&mut state.account, state.track.place);
 }
 
 impl Records {
