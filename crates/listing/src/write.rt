@@ -1,11 +1,33 @@
 // Writing one line of a listing at the start of a lent buffer. The room is asked
 // before the first byte, so a buffer with too little room stays as it was.
 ghost use Rattle.std.specs.Prelude.{◌≡◌, ◌+◌, ◌≤◌, length};
-ghost use Rattle.listing.specs.Listing.{shown, noted};
-ghost use Rattle.listing.specs.Written.{Put, TookBytes};
+ghost use Rattle.listing.specs.Listing.{heading, noted, shown};
+ghost use Rattle.listing.specs.Written.{Put, Takes, TookBytes};
 
 use crate::answer::Answer;
 use crate::digits::{put_byte, put_long, put_text, width};
+
+// The number of a line and a space, where there is room for them.
+#[inline(always)]
+fn put_front(out: &mut [u8], number: u32) -> usize
+    requires { length (heading number) ≤ length out.old }
+    ensures { Takes 0 out.old (heading number) result out.new }
+{
+    let at = put_long(out, 0, number);
+    put_byte(out, at, b' ')
+}
+
+// Writes what the line `number` of a listing begins with, and tells how many bytes it has, at most 11; nothing
+// where `out` has less room.
+pub fn put_heading(out: &mut [u8], number: u32) -> Option<usize>
+    ensures line { Put out.old (heading number) result out.new }
+    ensures short { length (heading number) ≤ 11 }
+{
+    if out.len() <= width(number) {
+        return None;
+    }
+    Some(put_front(out, number))
+}
 
 // Writes the line `number` of a listing, for a note, and tells how many bytes it
 // has, at most 12 more than the note; nothing where `out` has less room. (`out` and `number` come side
@@ -18,8 +40,7 @@ pub fn put_note(out: &mut [u8], number: u32, text: &[u8]) -> Option<usize>
     if out.len() <= width(number) + 1 + text.len() {
         return None;
     }
-    let at = put_long(out, 0, number);
-    let at = put_byte(out, at, b' ');
+    let at = put_front(out, number);
     let at = put_text(out, at, text);
     Some(put_byte(out, at, b'\n'))
 }

@@ -6,6 +6,11 @@ ghost use Rattle.std.specs.Prelude.{OnOk};
 ghost use Rattle.schedule.specs.Boards.{Follows, UnitMemory};
 ghost use Rattle.schedule.specs.Meaning.{first_board, listing};
 
+mod reading;
+#[cfg(test)]
+mod tests;
+
+use crate::reading::read_input;
 use cache::layer::Cache;
 use lock::locks::Lock;
 use masks::before::Masks;
@@ -16,7 +21,7 @@ use queue::ring::Ring;
 use schedule::desk::Desk;
 use schedule::printing::print;
 use std::io;
-use std::io::{Read, Write};
+use std::io::Write;
 use words::array::Words;
 
 // Prints the listing of a schedule, its calls made to these four locks. They come one by one, since the borrow
@@ -59,7 +64,6 @@ fn list<T: Write>(input: &[u8], out: &mut T) -> io::Result<()>
 }
 
 fn main(rt: HostRuntime) -> io::Result<()> {
-    let mut input = Vec::new(rt.alloc());
-    rt.stdin().read_to_end(&mut input)?;
+    let input = read_input(&mut rt.stdin(), rt.alloc())?;
     list(input.as_slice(), &mut rt.stdout())
 }

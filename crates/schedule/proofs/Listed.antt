@@ -9,6 +9,8 @@ use Rattle.script.specs.Reading.{to_come}
 use Rattle.listing.specs.Written.{TookBytes}
 use Rattle.schedule.specs.declared.refusal.Refusal.{Refusal}
 use Rattle.schedule.specs.declared.schedule.Schedule.{Schedule}
+use Rattle.schedule.specs.Desks.{DeskTells}
+use Rattle.schedule.specs.Replies.{Heard, Obeyed}
 use Rattle.schedule.specs.Boards.{AtBoard, GivesListed, Stands, UnitMemory}
 use Rattle.schedule.specs.Listing.{DidLine, Gives, GivesLine, left, reply_bytes}
 use Rattle.schedule.specs.Meaning.{Board, board_after, first_board, replied}
@@ -23,37 +25,40 @@ one_more [] l = refl
 one_more (x ∷ ls) l = omega (arith, one_more ls l)
 
 module _ {W P R K : Type 0} (w : MemoryGhosts W) (p : MemoryGhosts P) (r : QueueGhosts R) (k : QueueGhosts K) (words : UnitMemory 4294967295 w) (packed : UnitMemory 15 p) (input : List ℕ) where
-  did_listed : (s t : Schedule W P R K) (d o : List ℕ) (b : Board) (count : ℕ) → Stands w p r k input s b → DidLine w p r k s d count t o → GivesListed w p r k input s d b (Ok (Some count)) t o
-  did_listed s t d o b count stands did =
-      let l = did.text in
-      let agrees = line_agrees w p r k words packed (parse l) did.reply s.desk t.desk b stands.desk (subst BoardReady (sym stands.board) (after_ready stands.done first_board tt)) did.obeyed in
-      let bytes : TookBytes d (reply_bytes (s.reader.number + 1) (replied (parse l) b).0) count o = subst (λ e. TookBytes d (reply_bytes (s.reader.number + 1) e) count o) agrees.0 (subst (λ n. TookBytes d (reply_bytes n did.reply) count o) did.number did.bytes) in (
-        l,
-        did.next,
-        bytes,
+  -- a line is obeyed as the board has it
+  pub stands_on : (s t : Schedule W P R K) (b : Board) (l : List ℕ) (reply : Result Heard Refusal) → Stands w p r k input s b → left s ≡ l ∷ left t → t.reader.number ≡ s.reader.number + 1 → t.untold ≡ None → Obeyed (DeskTells w p r k) s.desk (parse l) reply t.desk → (reply ≡ (replied (parse l) b).0) × Stands w p r k input t (replied (parse l) b).1
+  stands_on s t b l reply stands next number told obeyed =
+      let agrees = line_agrees w p r k words packed (parse l) reply s.desk t.desk b stands.desk (subst BoardReady (sym stands.board) (after_ready stands.done first_board tt)) obeyed in (
+        agrees.0,
         record {
           done = stands.done ++ l ∷ [];
-          cut = stands.cut ∙ ap (λ ls. stands.done ++ ls) did.next ∙ sym (append_assoc stands.done (l ∷ []) (left t));
-          counted = did.number ∙ ap (λ n. n + 1) stands.counted ∙ sym (one_more stands.done l);
+          cut = stands.cut ∙ ap (λ ls. stands.done ++ ls) next ∙ sym (append_assoc stands.done (l ∷ []) (left t));
+          counted = number ∙ ap (λ n. n + 1) stands.counted ∙ sym (one_more stands.done l);
           board = ap (λ x. (replied (parse l) x).1) stands.board ∙ sym (board_snoc stands.done l first_board);
           desk = agrees.1;
-          told = did.told;
+          told = told;
         },
       )
 
+  did_listed : (s t : Schedule W P R K) (d o : List ℕ) (b : Board) (count : ℕ) → Stands w p r k input s b → DidLine w p r k s d count t o → GivesListed w p r k input s d b (Ok (Some count)) t o
+  did_listed s t d o b count stands did =
+      let l = did.text in
+      let agrees = stands_on s t b l did.reply stands did.next did.number did.told did.obeyed in
+      let bytes : TookBytes d (reply_bytes (s.reader.number + 1) (replied (parse l) b).0) count o = subst (λ e. TookBytes d (reply_bytes (s.reader.number + 1) e) count o) agrees.0 (subst (λ n. TookBytes d (reply_bytes n did.reply) count o) did.number did.bytes) in
+      (l, did.next, bytes, agrees.1)
+
+  pub stands_still : (s t : Schedule W P R K) (b : Board) → Stands w p r k input s b → t.untold ≡ s.untold → t.reader ≡ s.reader → t.desk ≡ s.desk → Stands w p r k input t b
+  stands_still s t b stands untold reader desk = record {
+    done = stands.done;
+    cut = stands.cut ∙ ap (λ x. stands.done ++ to_come x) (sym reader);
+    counted = ap (λ (x : Reader). x.number) reader ∙ stands.counted;
+    board = stands.board;
+    desk = subst (λ x. AtBoard w p r k x b) (sym desk) stands.desk;
+    told = untold ∙ stands.told;
+  }
+
   line_given : (s t : Schedule W P R K) (d o : List ℕ) (b : Board) (given : Option ℕ) → Stands w p r k input s b → GivesLine w p r k None s d given t o → GivesListed w p r k input s d b (Ok given) t o
-  line_given s t d o b None stands (ended, same) = (
-    ended.none_left,
-    same,
-    record {
-      done = stands.done;
-      cut = stands.cut ∙ ap (λ x. stands.done ++ to_come x) (sym ended.reader);
-      counted = ap (λ (x : Reader). x.number) ended.reader ∙ stands.counted;
-      board = stands.board;
-      desk = subst (λ x. AtBoard w p r k x b) (sym ended.desk) stands.desk;
-      told = ended.untold ∙ stands.told;
-    },
-  )
+  line_given s t d o b None stands (ended, same) = (ended.none_left, same, stands_still s t b stands ended.untold ended.reader ended.desk)
   line_given s t d o b (Some count) stands did = did_listed s t d o b count stands did
 
   pub line_listed : (s t : Schedule W P R K) (d o : List ℕ) (b : Board) (result : Result (Option ℕ) Refusal) → Stands w p r k input s b → Gives w p r k s d result t o → GivesListed w p r k input s d b result t o

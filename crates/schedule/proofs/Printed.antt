@@ -1,7 +1,7 @@
 -- The bytes of all lines, one after another, are the listing.
-use Rattle.std.proofs.Common.{◌≡◌, ℕ, ◌+◌, ◌≤◌, cond, leb, List, [], ◌++◌, length, take, drop, Some, None, Ok, Option, Result, sym, refl, ap, ◌∙◌, subst, inl, inr, arith, length-append, length-take-le}
+use Rattle.std.proofs.Common.{◌≡◌, ℕ, cond, leb, List, [], ◌++◌, length, Some, None, Option, sym, refl, ap, ◌∙◌, subst, inl, inr, arith}
 use Rattle.std.proofs.lemmas.Bool.{cases_Bool}
-use Rattle.std.proofs.lemmas.List.{append-nil, append_assoc, take_at}
+use Rattle.std.proofs.lemmas.List.{append-nil, append_assoc}
 use Rattle.std.specs.Io.KnownBytes.{Appends}
 use Rattle.memory.specs.declared.interface.Memory.{Ghosts as MemoryGhosts}
 use Rattle.queue.specs.declared.interface.Queue.{Ghosts as QueueGhosts}
@@ -9,102 +9,23 @@ use Rattle.script.specs.declared.call.MemoryKind.{MemoryKind}
 use Rattle.script.specs.declared.call.MemoryKind.TheVariants.{Words, Packed}
 use Rattle.script.specs.declared.call.QueueKind.{QueueKind}
 use Rattle.script.specs.declared.call.QueueKind.TheVariants.{Ring, Masks}
+use Rattle.script.specs.declared.refusal.Refusal.{Refusal as LineRefusal}
 use Rattle.script.specs.declared.refusal.Refusal.TheVariants.{Length}
 use Rattle.script.specs.Calls.{parse}
 use Rattle.script.specs.Cuts.{lines}
-use Rattle.script.specs.Reading.{to_come as lines_to_come}
-use Rattle.listing.specs.Written.{TookBytes}
+use Rattle.script.specs.declared.reader.Reader.{Reader}
+use Rattle.script.specs.Reading.{to_come}
 use Rattle.schedule.specs.declared.desk.Desk.{Desk}
-use Rattle.schedule.specs.declared.refusal.Refusal.{Refusal}
+use Rattle.schedule.specs.declared.gathered.LongNote.{LongNote}
 use Rattle.schedule.specs.declared.schedule.Schedule.{Schedule}
-use Rattle.schedule.specs.Boards.{AtBoard, Follows, GivesListed, PairFollows, Stands}
-use Rattle.schedule.specs.Listing.{Begun, Gives, GivesLine, left, reply_bytes, whole_refused}
+use Rattle.schedule.specs.Boards.{AtBoard, Follows, PairFollows, Stands, UnitMemory}
+use Rattle.schedule.specs.Gathering.{GathersLine, GathersLines, GathersNext, Passed, waiting}
+use Rattle.schedule.specs.Listing.{Begun, left, reply_bytes, whole_refused}
 use Rattle.schedule.specs.Meaning.{Board, first_board, listed, listing, replied}
-
-pub appends_none : (a : Option (List ℕ)) → Appends a a []
-appends_none None = tt
-appends_none (Some xs) = sym (append-nil xs)
-
-pub appends_more : (a b c : Option (List ℕ)) (xs ys : List ℕ) → Appends a b xs → Appends b c ys → Appends a c (xs ++ ys)
-appends_more None b c xs ys h k = tt
-appends_more (Some old) None c xs ys h k = absurd h
-appends_more (Some old) (Some bs) None xs ys h k = absurd k
-appends_more (Some old) (Some bs) (Some cs) xs ys h k = k ∙ ap (λ z. z ++ ys) h ∙ append_assoc old xs ys
-
--- the bytes handed out behind those that are held
-held_more : (buffer bs d o behind : List ℕ) (filled count : ℕ) → filled ≤ length buffer → TookBytes d bs count o → take (filled + count) (take filled buffer ++ (o ++ behind)) ≡ take filled buffer ++ bs
-held_more buffer bs d o behind filled count fits t =
-    let held = take filled buffer in
-    ap (λ z. take (filled + count) (held ++ (z ++ behind))) t.after
-    ∙ ap (λ z. take (filled + count) (held ++ z)) (append_assoc bs (drop (length bs) d) behind)
-    ∙ ap (take (filled + count)) (sym (append_assoc held bs (drop (length bs) d ++ behind)))
-    ∙ take_at (held ++ bs) (drop (length bs) d ++ behind) (filled + count) (omega (arith, length-append held bs, length-take-le filled buffer fits, t.count))
+use Rattle.schedule.proofs.Held.{appends_more, appends_none, passed_more}
+use Rattle.schedule.proofs.Listed.{stands_on, stands_still}
 
 module _ {W P R K : Type 0} (w : MemoryGhosts W) (p : MemoryGhosts P) (r : QueueGhosts R) (k : QueueGhosts K) (input : List ℕ) where
-  -- what is still to be printed
-
-  pub data Rest (s : Schedule W P R K) : List ℕ → Type 0 where
-    lines_left : (b : Board) → Stands w p r k input s b → Rest s (listed s.reader.number b (left s))
-    untold : s.untold ≡ Some Length → left s ≡ [] → Rest s (whole_refused Length)
-    all_told : s.untold ≡ None → left s ≡ [] → Rest s []
-
-  pub begun_rest : (desk : Desk W P R K) (s : Schedule W P R K) → Begun input desk s → AtBoard w p r k desk first_board → Rest s (listing input)
-  begun_rest desk s begun at =
-      elim (cases_Bool (leb (length input) 65536)) [
-        | inl few ↦
-            let next : left s ≡ lines input = begun.lines_left ∙ ap (λ b. cond b (lines input) []) few in
-            let stands : Stands w p r k input s first_board = record { done = []; cut = sym next; counted = begun.none_done; board = refl; desk = subst (λ d. AtBoard w p r k d first_board) (sym begun.at_desk) at; told = begun.untold ∙ ap (λ b. cond b None (Some Length)) few } in
-            let is : listed s.reader.number first_board (left s) ≡ listing input = ap (λ n. listed n first_board (left s)) begun.none_done ∙ ap (listed 0 first_board) next ∙ sym (ap (λ b. cond b (listed 0 first_board (lines input)) (whole_refused Length)) few) in
-            subst (Rest s) is (lines_left first_board stands)
-        | inr many ↦
-            let is : whole_refused Length ≡ listing input = sym (ap (λ b. cond b (listed 0 first_board (lines input)) (whole_refused Length)) many) in
-            subst (Rest s) is (untold (begun.untold ∙ ap (λ b. cond b None (Some Length)) many) (begun.lines_left ∙ ap (λ b. cond b (lines input) []) many))
-      ]
-
-  -- one turn: the bytes of a line, and what is left then
-  pub record Turn (t : Schedule W P R K) (rest d : List ℕ) (count : ℕ) (o : List ℕ) : Type 0 where
-    pub bytes : List ℕ
-    pub later : List ℕ
-    pub parts : rest ≡ bytes ++ later
-    pub took : TookBytes d bytes count o
-    pub next : Rest t later
-
-  pub turned : (s t : Schedule W P R K) (rest d o : List ℕ) (count : ℕ) → Rest s rest → Gives w p r k s d (Ok (Some count)) t o → ((b : Board) → Stands w p r k input s b → GivesListed w p r k input s d b (Ok (Some count)) t o) → Turn t rest d count o
-  turned s t rest d o count (lines_left b stands) gives given =
-      let (l, next, took, stands') = given b stands in
-      let n = s.reader.number in
-      let number : t.reader.number ≡ n + 1 = (subst (λ u. GivesLine w p r k u s d (Some count) t o) stands.told gives.1).number in
-      let later = listed t.reader.number (replied (parse l) b).1 (left t) in
-      let bytes = reply_bytes (n + 1) (replied (parse l) b).0 in
-      record {
-        bytes = bytes;
-        later = later;
-        parts = ap (listed n b) next ∙ ap (λ m. bytes ++ listed m (replied (parse l) b).1 (left t)) (sym number);
-        took = took;
-        next = lines_left (replied (parse l) b).1 stands';
-      }
-  turned s t rest d o count (untold why none) gives given =
-      let whole = subst (λ u. GivesLine w p r k u s d (Some count) t o) why gives.1 in
-      record { bytes = whole_refused Length; later = []; parts = sym (append-nil (whole_refused Length)); took = whole.bytes; next = all_told whole.told (ap lines_to_come whole.reader ∙ none) }
-  turned s t rest d o count (all_told told none) gives given =
-      let did = subst (λ u. GivesLine w p r k u s d (Some count) t o) told gives.1 in
-      absurd (omega (arith, ap length (sym none ∙ did.next)))
-
-  pub nothing_left : (s t : Schedule W P R K) (rest d o : List ℕ) → Rest s rest → Gives w p r k s d (Ok None) t o → rest ≡ []
-  nothing_left s t rest d o (lines_left b stands) gives =
-      let ended = subst (λ u. GivesLine w p r k u s d None t o) stands.told gives.1 in
-      ap (listed s.reader.number b) ended.0.none_left
-  nothing_left s t rest d o (untold why none) gives = absurd (subst (λ u. GivesLine w p r k u s d None t o) why gives.1)
-  nothing_left s t rest d o (all_told told none) gives = refl
-
-  -- what was printed so far, what is held to be printed with the lines after it, and what is still to be asked for
-  pub record Printing (before now : Option (List ℕ)) (held : List ℕ) (s : Schedule W P R K) : Type 0 where
-    pub printed : List ℕ
-    pub rest : List ℕ
-    pub whole : printed ++ (held ++ rest) ≡ listing input
-    pub wrote : Appends before now printed
-    pub to_come : Rest s rest
-
   -- a desk over the same locks
   pub same_locks : (d e : Desk W P R K) → e.chosen ≡ d.chosen → e.words_ring.now ≡ d.words_ring.now → e.words_masks.now ≡ d.words_masks.now → e.packed_ring.now ≡ d.packed_ring.now → e.packed_masks.now ≡ d.packed_masks.now → AtBoard w p r k d first_board → AtBoard w p r k e first_board
   same_locks d e chosen first second third fourth at = record { chosen = chosen ∙ at.chosen; follows = each }
@@ -115,23 +36,96 @@ module _ {W P R K : Type 0} (w : MemoryGhosts W) (p : MemoryGhosts P) (r : Queue
       each Packed Ring = subst (λ l. Follows p r l first_board.lock) (sym third) (at.follows Packed Ring)
       each Packed Masks = subst (λ l. Follows p k l first_board.lock) (sym fourth) (at.follows Packed Masks)
 
-  pub printing_begun : (desk : Desk W P R K) (s : Schedule W P R K) (a : Option (List ℕ)) → Begun input desk s → AtBoard w p r k desk first_board → Printing a a [] s
-  printing_begun desk s a begun at = record { printed = []; rest = listing input; whole = refl; wrote = appends_none a; to_come = begun_rest desk s begun at }
+  -- all lines of a schedule just begun are left
+  pub begun_stands : (desk : Desk W P R K) (s : Schedule W P R K) → s.untold ≡ None → Begun input desk s → AtBoard w p r k desk first_board → Stands w p r k input s first_board × (listed s.reader.number first_board (left s) ≡ listing input)
+  begun_stands desk s told begun at =
+      elim (cases_Bool (leb (length input) 65536)) [
+        | inl few ↦
+            let next : left s ≡ lines input = begun.lines_left ∙ ap (λ b. cond b (lines input) []) few in (
+              record { done = []; cut = sym next; counted = begun.none_done; board = refl; desk = subst (λ d. AtBoard w p r k d first_board) (sym begun.at_desk) at; told = told },
+              ap (λ n. listed n first_board (left s)) begun.none_done ∙ ap (listed 0 first_board) next ∙ sym (ap (λ b. cond b (listed 0 first_board (lines input)) (whole_refused Length)) few),
+            )
+        | inr many ↦
+            let never : ◌≡◌ {A = Option LineRefusal} None (Some Length) = sym told ∙ begun.untold ∙ ap (λ b. cond b None (Some Length)) many in
+            absurd (grind (arith, never))
+      ]
 
-  -- a line's bytes are held too
-  pub printing_on : (s t : Schedule W P R K) (buffer d o behind : List ℕ) (filled count : ℕ) (found : Option ℕ) (a b : Option (List ℕ)) → filled ≤ length buffer → found ≡ Some count → Printing a b (take filled buffer) s → Gives w p r k s d (Ok found) t o → ((x : Board) → Stands w p r k input s x → GivesListed w p r k input s d x (Ok found) t o) → Printing a b (take (filled + count) (take filled buffer ++ (o ++ behind))) t
-  printing_on s t buffer d o behind filled count found a b fits is pr gives given =
-      let turn = turned s t pr.rest d o count pr.to_come (subst (λ f. Gives w p r k s d (Ok f) t o) is gives) (λ x stands. subst (λ f. GivesListed w p r k input s d x (Ok f) t o) is (given x stands)) in
-      let held = take filled buffer in
-      let whole = ap (λ z. pr.printed ++ z) (append_assoc held turn.bytes turn.later ∙ ap (λ z. held ++ z) (sym turn.parts)) ∙ pr.whole in
-      subst (λ z. Printing a b z t) (sym (held_more buffer turn.bytes d o behind filled count fits turn.took)) (record { printed = pr.printed; rest = turn.later; whole = whole; wrote = pr.wrote; to_come = turn.next })
+  -- or the whole input is refused
+  pub begun_refused : (desk : Desk W P R K) (s : Schedule W P R K) (e : LineRefusal) → s.untold ≡ Some e → Begun input desk s → whole_refused e ≡ listing input
+  begun_refused desk s e why begun =
+      elim (cases_Bool (leb (length input) 65536)) [
+        | inl few ↦
+            let never : ◌≡◌ {A = Option LineRefusal} (Some e) None = sym why ∙ begun.untold ∙ ap (λ b. cond b None (Some Length)) few in
+            absurd (grind (arith, never))
+        | inr many ↦ ap whole_refused (s.reason e why) ∙ sym (ap (λ b. cond b (listed 0 first_board (lines input)) (whole_refused Length)) many)
+      ]
 
-  -- what was held is printed
-  pub printing_out : (s : Schedule W P R K) (held : List ℕ) (a b c : Option (List ℕ)) → Printing a b held s → Appends b c held → Printing a c [] s
-  printing_out s held a b c pr wrote = record { printed = pr.printed ++ held; rest = pr.rest; whole = append_assoc pr.printed held pr.rest ∙ pr.whole; wrote = appends_more a b c pr.printed held pr.wrote wrote; to_come = pr.to_come }
+  module _ (s : Schedule W P R K) (b : Board) (before : List ℕ) (a : Option (List ℕ)) where
+    abbrev Lines : Schedule W P R K → List ℕ → Option (List ℕ) → Type 0
+    Lines t after c = GathersLines w p r k input s b before a t after c
 
-  pub printing_done : (s t : Schedule W P R K) (held d o : List ℕ) (found : Result (Option ℕ) Refusal) (a b c : Option (List ℕ)) → found ≡ Ok None → Printing a b held s → Gives w p r k s d found t o → Appends b c held → Appends a c (listing input)
-  printing_done s t held d o found a b c is pr gives wrote =
-      let none = nothing_left s t pr.rest d o pr.to_come (subst (λ f. Gives w p r k s d f t o) is gives) in
-      let whole : pr.printed ++ held ≡ listing input = ap (λ z. pr.printed ++ z) (sym (append-nil held) ∙ ap (λ z. held ++ z) (sym none)) ∙ pr.whole in
-      subst (Appends a c) whole (appends_more a b c pr.printed held pr.wrote wrote)
+    pub lines_begun : Stands w p r k input s b → Lines s before a
+    lines_begun stands = record { board = b; bytes = []; parts = refl; stands = stands; passed = record { written = []; whole = append-nil before; wrote = appends_none a } }
+
+    -- one more line is obeyed
+    pub lines_on : (t u : Schedule W P R K) (after more : List ℕ) (long : Option LongNote) (c : Option (List ℕ)) → UnitMemory 4294967295 w → UnitMemory 15 p → Lines t after c → GathersLine w p r k t after u more long → Lines u (more ++ waiting long) c
+    lines_on t u after more long c words packed g line =
+        let l = line.text in
+        let reply = line.gathers.reply in
+        let agrees = stands_on w p r k words packed input t u g.board l reply g.stands line.next line.number (line.untold ∙ g.stands.told) line.gathers.obeyed in
+        let n = t.reader.number in
+        let board = (replied (parse l) g.board).1 in
+        let bytes = reply_bytes u.reader.number reply in
+        let later = listed u.reader.number board (left u) in
+        let parts : listed n g.board (left t) ≡ bytes ++ later =
+        ap (listed n g.board) line.next ∙ ap (λ m. reply_bytes m (replied (parse l) g.board).0 ++ listed m board (left u)) (sym line.number) ∙ ap (λ e. reply_bytes u.reader.number e ++ later) (sym agrees.0) in
+        record {
+          board = board;
+          bytes = g.bytes ++ bytes;
+          parts = g.parts ∙ ap (λ z. g.bytes ++ z) parts ∙ sym (append_assoc g.bytes bytes later);
+          stands = agrees.1;
+          passed = record {
+            written = g.passed.written;
+            whole = sym (append_assoc before g.bytes bytes) ∙ ap (λ z. z ++ bytes) g.passed.whole ∙ append_assoc g.passed.written after bytes ∙ ap (λ z. g.passed.written ++ z) (sym line.gathers.bytes);
+            wrote = g.passed.wrote;
+          };
+        }
+
+    -- some of the bytes are written
+    pub lines_out : (t : Schedule W P R K) (after rest : List ℕ) (c d : Option (List ℕ)) → Lines t after c → Passed after c rest d → Lines t rest d
+    lines_out t after rest c d g passed = record { board = g.board; bytes = g.bytes; parts = g.parts; stands = g.stands; passed = passed_more (before ++ g.bytes) after rest a c d g.passed passed }
+
+    pub lines_at : (t : Schedule W P R K) (after same : List ℕ) (c d : Option (List ℕ)) → same ≡ after → d ≡ c → Lines t after c → Lines t same d
+    lines_at t after same c d is at g = subst (λ z. Lines t same z) (sym at) (subst (λ z. Lines t z c) (sym is) g)
+
+    -- no line was left
+    pub lines_ended : (t u : Schedule W P R K) (after more : List ℕ) (c : Option (List ℕ)) → UnitMemory 4294967295 w → UnitMemory 15 p → Lines t after c → GathersNext w p r k t after u more None → Lines u more c
+    lines_ended t u after more c words packed g (ended, same) = record {
+      board = g.board;
+      bytes = g.bytes;
+      parts = g.parts ∙ ap (λ (x : Reader). g.bytes ++ listed x.number g.board (to_come x)) (sym ended.reader);
+      stands = stands_still w p r k words packed input t u g.board g.stands ended.untold ended.reader ended.desk;
+      passed = subst (λ z. Passed (before ++ g.bytes) a z c) (sym same) g.passed;
+    }
+
+    -- more lines are obeyed
+    pub lines_both : (t u : Schedule W P R K) (after rest : List ℕ) (c d : Option (List ℕ)) (g : Lines t after c) → GathersLines w p r k input t g.board after c u rest d → Lines u rest d
+    lines_both t u after rest c d g h = record {
+      board = h.board;
+      bytes = g.bytes ++ h.bytes;
+      parts = g.parts ∙ ap (λ z. g.bytes ++ z) h.parts ∙ sym (append_assoc g.bytes h.bytes (listed u.reader.number h.board (left u)));
+      stands = h.stands;
+      passed = record {
+        written = g.passed.written ++ h.passed.written;
+        whole = sym (append_assoc before g.bytes h.bytes) ∙ ap (λ z. z ++ h.bytes) g.passed.whole ∙ append_assoc g.passed.written after h.bytes ∙ ap (λ z. g.passed.written ++ z) h.passed.whole ∙ sym (append_assoc g.passed.written h.passed.written rest);
+        wrote = appends_more a c d g.passed.written h.passed.written g.passed.wrote h.passed.wrote;
+      };
+    }
+
+  -- all lines are obeyed, and all bytes written
+  pub lines_done : (s t : Schedule W P R K) (after rest : List ℕ) (a c d : Option (List ℕ)) → listed s.reader.number first_board (left s) ≡ listing input → GathersLines w p r k input s first_board [] a t after c → left t ≡ [] → Passed after c rest d → rest ≡ [] → Appends a d (listing input)
+  lines_done s t after rest a c d all g none passed empty =
+      let last = passed_more g.bytes after rest a c d g.passed passed in
+      let whole : last.written ≡ listing input =
+      sym (append-nil last.written) ∙ ap (λ z. last.written ++ z) (sym empty) ∙ sym last.whole ∙ sym (append-nil g.bytes) ∙ ap (λ z. g.bytes ++ z) (sym (ap (listed t.reader.number g.board) none)) ∙ sym g.parts ∙ all in
+      subst (Appends a d) whole last.wrote

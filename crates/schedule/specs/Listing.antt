@@ -18,7 +18,7 @@ use Rattle.schedule.specs.declared.refusal.Refusal.{Refusal}
 use Rattle.schedule.specs.declared.refusal.Refusal.TheVariants.{Line}
 use Rattle.schedule.specs.Refusals.{refusal_number}
 use Rattle.schedule.specs.Desks.{DeskTells}
-use Rattle.schedule.specs.Replies.{Heard, nothing, noting, answering, Obeyed, raised}
+use Rattle.schedule.specs.Replies.{Heard, nothing, noting, answering, Obeyed}
 
 -- the bytes of the line n, where it is refused
 abbrev pub refusal_bytes : ℕ → Refusal → List ℕ
@@ -35,12 +35,9 @@ reply_bytes n (Err e) = refusal_bytes n e
 abbrev pub whole_refused : LineRefusal → List ℕ
 whole_refused e = refusal_bytes 0 (Line e)
 
--- the call a is made, tells what leads from s to t, and the line n of the listing, which tells it, is put into the buffer d
-pub record ToldInto {S : Type 0} (does : S → Ask → Result Answer LockRefusal → S → Type 0) (s : S) (a : Ask) (n : ℕ) (d : List ℕ) (count : Option ℕ) (t : S) (o : List ℕ) : Type 0 where
-  pub told : Result Answer LockRefusal
-  pub did : does s a told t
-  pub bytes : Put d (reply_bytes n (raised told)) count o
-  pub short : length (reply_bytes n (raised told)) ≤ 64
+-- the answer a, written out, tells this reply
+abbrev pub tells_of : Result Heard Refusal → Answer → Type 0
+tells_of r a = (n : ℕ) → reply_bytes n r ≡ shown n a
 
 -- a line with this text is obeyed, which leads from s to t, and the line n of the listing is put into the buffer d
 pub record ObeyedInto {S : Type 0} (does : S → Ask → Result Answer LockRefusal → S → Type 0) (s : S) (text : List ℕ) (n : ℕ) (d : List ℕ) (count : Option ℕ) (t : S) (o : List ℕ) : Type 0 where
@@ -48,6 +45,8 @@ pub record ObeyedInto {S : Type 0} (does : S → Ask → Result Answer LockRefus
   pub obeyed : Obeyed does s (parse text) reply t
   pub bytes : Put d (reply_bytes n reply) count o
   pub short : (m : ℕ) → 64 ≤ m → 12 + length text ≤ m → length (reply_bytes n reply) ≤ m
+  -- only a note, the whole of its line, has more bytes than 64
+  pub long : 64 < length (reply_bytes n reply) → reply ≡ Ok (noting text)
 
 module _ {W P R K : Type 0} where
   -- the lines that are still to be done
@@ -96,12 +95,3 @@ module _ {W P R K : Type 0} (w : MemoryGhosts W) (p : MemoryGhosts P) (r : Queue
   abbrev pub Gives : Schedule W P R K → List ℕ → Result (Option ℕ) Refusal → Schedule W P R K → List ℕ → Type 0
   Gives s d (Ok given) t o = (65552 ≤ length d) × GivesLine s.untold s d given t o
   Gives s d (Err e) t o = (length d < 65552) × (e ≡ Line Room) × (t ≡ s) × (o ≡ d)
-
--- the line that tells why the whole input is refused
-abbrev pub untold_lines : Option LineRefusal → ℕ
-untold_lines None = 0
-untold_lines (Some e) = 1
-
--- how many lines of the listing are still to be asked for, blank ones among them
-abbrev pub to_do : {W P R K : Type 0} → Schedule W P R K → ℕ
-to_do s = length (left s) + untold_lines s.untold

@@ -67,7 +67,10 @@ enum Done {
 // Opens the lock, and tells how many tasks there then are. (Apart from the other calls, since a schedule opens seldom and
 // the new records need much room.)
 #[inline(never)]
-fn open<B: Memory, Q: Queue>(lock: &mut Lock<'_, Cache<B>, Q>, roles: &[u8]) -> Result<u32, Refusal>
+pub(crate) fn open<B: Memory, Q: Queue>(
+    lock: &mut Lock<'_, Cache<B>, Q>,
+    roles: &[u8],
+) -> Result<u32, Refusal>
     ensures { OpensTo (cached B.Memory) Q.Queue roles.now lock.old (opened_telling result) lock.new }
 {
     lock.open_cached(roles)?;

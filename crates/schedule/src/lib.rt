@@ -5,6 +5,8 @@
 mod answers;
 pub mod desk;
 pub mod desking;
+mod gathered;
+mod gathering;
 pub mod laws;
 mod obeying;
 mod passes;
@@ -14,3 +16,4 @@ pub mod running;
 pub mod schedule;
 #[cfg(test)]
 mod tests;
+mod way;

@@ -1,5 +1,5 @@
 // Running a schedule line by line. Each line of the listing is written at the start of a lent buffer.
-ghost use Rattle.std.specs.Prelude.{ℕ, List};
+ghost use Rattle.std.specs.Prelude.{◌≡◌, ℕ, List};
 ghost use Rattle.schedule.specs.Boards.{GivesListed, Stands, UnitMemory};
 ghost use Rattle.schedule.specs.Meaning.{Board};
 ghost use Rattle.schedule.specs.Listing.{Begun, Gives};
@@ -8,6 +8,7 @@ use crate::desk::Desk;
 use crate::obeying::{obey, put_refusal};
 use crate::refusal::Refusal;
 use crate::schedule::Schedule;
+use crate::way::AnyDesk;
 use memory::interface::Memory;
 use queue::interface::Queue;
 use script::lines::fits;
@@ -51,6 +52,13 @@ impl<'s, 'b, 'a, W: Memory, P: Memory, R: Queue, K: Queue> Schedule<'s, 'b, 'a, 
             return Ok(None);
         };
         let number = self.reader.number() as u32;
-        Ok(obey(out, number, &mut self.desk, text))
+        Ok(obey::<AnyDesk, W, P, R, K>(out, number, &mut self.desk, text))
+    }
+
+    // Why the whole input is refused, until a line has told it.
+    pub(crate) fn untold(&self) -> Option<script::refusal::Refusal>
+        ensures { result ≡ self.now.untold }
+    {
+        self.untold
     }
 }

@@ -1,5 +1,5 @@
 -- What a line of a schedule says.
-use Rattle.std.specs.Prelude.{ℕ, ◌≤◌, cond, List, [], ◌∷◌, length, drop, Ok, Err, Result, ◌==◌, slice_index}
+use Rattle.std.specs.Prelude.{◌≡◌, ℕ, cond, List, [], ◌∷◌, length, drop, Ok, Err, Result, ◌==◌, slice_index}
 use Rattle.script.specs.declared.call.MemoryKind.{MemoryKind}
 use Rattle.script.specs.declared.call.MemoryKind.TheVariants.{Words, Packed}
 use Rattle.script.specs.declared.call.QueueKind.{QueueKind}
@@ -90,9 +90,9 @@ said lines.Blank = blank
 said (lines.Note text) = note text.now
 said (lines.Call c) = call (ask c)
 
--- a note is no longer than its line, which has n bytes
-abbrev pub Part : Result Line Refusal → ℕ → Type 0
-Part (Ok lines.Blank) n = Unit {0}
-Part (Ok (lines.Note text)) n = length text.now ≤ n
-Part (Ok (lines.Call c)) n = Unit {0}
-Part (Err e) n = Unit {0}
+-- a note is its whole line
+abbrev pub Whole : Result Line Refusal → List ℕ → Type 0
+Whole (Ok lines.Blank) line = Unit {0}
+Whole (Ok (lines.Note text)) line = text.now ≡ line
+Whole (Ok (lines.Call c)) line = Unit {0}
+Whole (Err e) line = Unit {0}

@@ -26,6 +26,7 @@ pub(crate) fn past_space<'a>(more: &'a [u8]) -> Result<Option<&'a [u8]>, Refusal
 }
 
 impl<'a> Fields<'a> {
+    #[inline(always)]
     pub(crate) fn of(text: &'a [u8]) -> Fields<'a>
         ensures { left result ≡ parted text.now }
     {
@@ -49,6 +50,7 @@ impl<'a> Fields<'a> {
     }
 
     // No field is left. (A match, since here what is there is refused and what is not is well.)
+    #[inline(always)]
     pub(crate) fn end(self) -> Result<(), Refusal>
         ensures { result ≡ ended (left self.entry) }
     {

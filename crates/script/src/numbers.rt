@@ -83,6 +83,7 @@ pub(crate) fn one_number(mut fields: Fields) -> Result<u32, Refusal>
 }
 
 // Two numbers and nothing else.
+#[inline(always)]
 pub(crate) fn two_numbers(mut fields: Fields) -> Result<(u32, u32), Refusal>
     ensures { result ≡ two (left fields.entry) }
 {
@@ -93,6 +94,7 @@ pub(crate) fn two_numbers(mut fields: Fields) -> Result<(u32, u32), Refusal>
 }
 
 // Three numbers and nothing else.
+#[inline(always)]
 pub(crate) fn three_numbers(mut fields: Fields) -> Result<(u32, u32, u32), Refusal>
     ensures { result ≡ three (left fields.entry) }
 {

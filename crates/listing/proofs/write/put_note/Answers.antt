@@ -14,7 +14,7 @@ returns-then-out-width-clause-short c = omega (arith, length-append {A = ℕ}, l
 
 pub returns-clause-line : goal.returns-clause-line
 returns-clause-line c =
-    took (takes_both (takes_both (takes_both c.put_long-at.ensures c.put_byte-at.ensures) c.put_text-at.ensures) c.put_byte.ensures)
+    took (takes_both (takes_both c.put_front-at.ensures c.put_text-at.ensures) c.put_byte.ensures)
 
 pub returns-clause-short : goal.returns-clause-short
 returns-clause-short c = omega (arith, length-append {A = ℕ}, length_number c.args.number (omega arith))

@@ -1,44 +1,35 @@
-use Rattle.std.proofs.Common.{◌≡◌, ℕ, ◌-◌, ◌≤◌, List, length, take, None, Ok, Option, Result, refl, ◌∙◌, subst, arith}
+use Rattle.std.proofs.Common.{◌≡◌, ℕ, List, ◌∙◌, refl, sym, subst}
 use Rattle.std.proofs.lemmas.Result.{on_ok_weaker}
-use borrow.Rule.Slice.PartMut.{same_len_mid, take_put}
 use Rattle.std.specs.Io.KnownBytes.{Appends}
-use Rattle.schedule.specs.declared.refusal.Refusal.{Refusal}
-use Rattle.schedule.proofs.Printed.{printing_begun, printing_done, printing_on, printing_out, same_locks}
+use Rattle.schedule.specs.Gathering.{GathersLines, held}
+use Rattle.schedule.specs.Meaning.{first_board, listing}
+use Rattle.schedule.proofs.Held.{none_held, passed_all}
+use Rattle.schedule.proofs.Printed.{begun_refused, begun_stands, lines_both, lines_done, same_locks}
 use Rattle.schedule.proofs.printing.print.Goals as goal
 
-pub loop-count-init : goal.loop-count-init
-loop-count-init g c = (refl, omega arith, λ words packed at. printing_begun g.W.Memory g.P.Memory g.R.Queue g.K.Queue c.args.input.now _ c.new-schedule.result _ c.new-schedule.ensures (same_locks g.W.Memory g.P.Memory g.R.Queue g.K.Queue c.args.input.now c.args.desk _ refl refl refl refl refl at))
-
-pub loop-count-preserved-in_ok-write_all : goal.loop-count-preserved-in_ok-write_all
-loop-count-preserved-in_ok-write_all g c =
-    let given = c.in-Ok-Some.ensures in (
-      same_len_mid _ _ _ _ c.line_bytes.auto.out ∙ c.loop-count.invariant.0,
-      omega arith,
-      λ words packed at.
-          printing_out g.W.Memory g.P.Memory g.R.Queue g.K.Queue c.args.input.now c.line_bytes.new.self _ _ _ _
-          (printing_on g.W.Memory g.P.Memory g.R.Queue g.K.Queue c.args.input.now c.loop-count.schedule c.line_bytes.new.self c.loop-count.buffer _ c.line_bytes.new.out _ c.loop-count.filled c.in-Ok-Some.count _ _ _ (omega (arith, c.loop-count.invariant.0, c.loop-count.invariant.1)) c.in-Ok-Some.field-0-is (c.loop-count.invariant.2 words packed at) given.gives
-          (λ b stands. given.listed c.args.input.now b words packed stands))
-          c.in_ok-write_all.ensures.bytes,
-    )
-
-pub loop-count-preserved : goal.loop-count-preserved
-loop-count-preserved g c =
-    let given = c.in-Ok-Some.ensures in (
-      same_len_mid _ _ _ _ c.line_bytes.auto.out ∙ c.loop-count.invariant.0,
-      omega arith,
-      λ words packed at.
-          printing_on g.W.Memory g.P.Memory g.R.Queue g.K.Queue c.args.input.now c.loop-count.schedule c.line_bytes.new.self c.loop-count.buffer _ c.line_bytes.new.out _ c.loop-count.filled c.in-Ok-Some.count _ _ _ (omega (arith, c.loop-count.invariant.0, c.loop-count.invariant.1)) c.in-Ok-Some.field-0-is (c.loop-count.invariant.2 words packed at) given.gives
-          (λ b stands. given.listed c.args.input.now b words packed stands),
-    )
+pub returns-in-Some : goal.returns-in-Some
+returns-in-Some g c = λ words packed at.
+    let why = c.in-Some.why in
+    let told = held c.refuse.new.self in
+    let end = c.write_out in
+    let whole : ◌≡◌ {A = List ℕ} told (listing c.args.input.now) = c.refuse.ensures ∙ begun_refused g.W.Memory g.P.Memory g.R.Queue g.K.Queue c.args.input.now _ c.new-schedule.result why (sym c.in-Some.ensures) c.new-schedule.ensures in
+    on_ok_weaker end.result (λ wrote. subst (Appends (g.T.Write.contents c.args.out.now) (g.T.Write.contents end.new.out)) whole (passed_all told (held end.new.self) _ _ wrote.0 (none_held end.new.self wrote.1))) end.ensures
 
 pub returns : goal.returns
-returns g c =
-    let fits : c.loop-count.filled ≤ length c.loop-count.buffer = omega (arith, c.loop-count.invariant.0, c.loop-count.invariant.1) in
-    let room : 65552 ≤ length c.loop-count.buffer - c.loop-count.filled = omega (arith, c.loop-count.invariant.0, c.loop-count.invariant.1) in
-    let gives = c.line_bytes.ensures.gives in
-    let ended : ◌≡◌ {A = Result (Option ℕ) Refusal} c.line_bytes.result (Ok None) = grind (arith, c.match-line_bytes.branch, gives) in
-    let held : ◌≡◌ {A = List ℕ} _ (take c.loop-count.filled c.loop-count.buffer) = take_put c.loop-count.filled _ c.loop-count.buffer c.line_bytes.new.out fits in
-    λ words packed at.
-    on_ok_weaker c.write_all-2.result
-    (λ wrote. printing_done g.W.Memory g.P.Memory g.R.Queue g.K.Queue c.args.input.now c.loop-count.schedule c.line_bytes.new.self _ _ c.line_bytes.new.out _ _ _ _ ended (c.loop-count.invariant.2 words packed at) gives (subst (Appends _ _) held wrote))
-    c.write_all-2.ensures.bytes
+returns g c = λ words packed at.
+    let input = c.args.input.now in
+    let s = c.new-schedule.result in
+    let t = c.gather_lines.new.self in
+    let u = c.gather_rest.new.self in
+    let first = held c.new-gathered.result in
+    let middle = held c.gather_lines.new.gathered in
+    let last = held c.gather_rest.new.gathered in
+    let end = c.write_out-2 in
+    let begun = begun_stands g.W.Memory g.P.Memory g.R.Queue g.K.Queue input _ s (sym c.in_default.ensures) c.new-schedule.ensures (same_locks g.W.Memory g.P.Memory g.R.Queue g.K.Queue input c.args.desk _ refl refl refl refl refl at) in
+    let closed = c.in_ok-gather_lines.ensures.lines input first_board words packed begun.0 in
+    let rest = c.in_ok-gather_rest.ensures.lines input closed.board words packed closed.stands in
+    let both = lines_both g.W.Memory g.P.Memory g.R.Queue g.K.Queue input s first_board first (g.T.Write.contents c.args.out.now) t u middle last _ _ closed rest in
+    let all = subst (λ z. GathersLines g.W.Memory g.P.Memory g.R.Queue g.K.Queue input s first_board z (g.T.Write.contents c.args.out.now) u last (g.T.Write.contents c.gather_rest.new.out)) (none_held c.new-gathered.result c.new-gathered.ensures) both in
+    on_ok_weaker end.result
+    (λ wrote. lines_done g.W.Memory g.P.Memory g.R.Queue g.K.Queue input s u last (held end.new.self) _ _ _ begun.1 all c.in_ok-gather_rest.ensures.ended wrote.0 (none_held end.new.self wrote.1))
+    end.ensures

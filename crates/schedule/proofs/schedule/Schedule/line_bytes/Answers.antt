@@ -11,7 +11,7 @@ returns-clause-gives g c =
     let told : s.untold ≡ None = search rules in
     let still : c.take.new.self ≡ None = search rules in
     let fits : length given ≤ 65536 = omega (arith, line.short, s.short) in
-    let did = c.obey.ensures in
+    let did = c.obey.ensures.obeyed in
     let bytes = did.short 65552 (omega arith) (omega (arith, fits)) in
     (omega arith, did_line g.W.Memory g.P.Memory g.R.Queue g.K.Queue s _ c.args.out.now _ told given did.reply c.obey.result c.number-number.result line.first line.counted c.number-number.ensures.value still did.obeyed did.bytes (omega (arith, bytes)))
 

@@ -1,0 +1,62 @@
+// Reading an input from readers that give little at a time, are interrupted, or fail.
+use crate::reading::read_input;
+use std::io;
+use std::io::{ErrorKind, Read};
+use std::test::Fail;
+
+// Gives its text three bytes at a time. The second read is interrupted, and the one numbered `fails` fails.
+#[derive(Drop)]
+struct Shaky<'a> {
+    text: &'a [u8],
+    reads: u32,
+    fails: u32,
+}
+
+impl Read for Shaky<'_> {
+    fn read(&mut self, buf: &mut [u8]) -> io::Result<usize> {
+        self.reads = self.reads.wrapping_add(1);
+        if self.reads == 2 {
+            return Err(io::Error::from(ErrorKind::Interrupted));
+        }
+        if self.reads == self.fails {
+            return Err(io::Error::from(ErrorKind::NotConnected));
+        }
+        let most = buf.len().min(3);
+        self.text.read(&mut buf[..most])
+    }
+}
+
+const TEXT: &[u8] = b"O w r R\nE 1\n";
+
+fn reader_that(fails: u32) -> Shaky<'static> {
+    Shaky {
+        text: TEXT,
+        reads: 0,
+        fails,
+    }
+}
+
+#[test]
+fn an_interrupted_read_is_tried_again(rt: HostRuntime) -> Result<(), Fail> {
+    let input = read_input(&mut reader_that(0), rt.alloc())?;
+    assert_eq!(rt; input.as_slice(), TEXT);
+    Ok(())
+}
+
+#[test]
+fn a_read_that_fails_is_told(rt: HostRuntime) {
+    assert!(rt; read_input(&mut reader_that(3), rt.alloc()).is_err());
+    assert!(rt; read_input(&mut reader_that(1), rt.alloc()).is_err());
+}
+
+#[test]
+fn an_input_is_read_no_further_than_it_says_something(rt: HostRuntime) -> Result<(), Fail> {
+    let long = [b'#'; 70_000];
+    let mut reader = &long[..];
+    let input = read_input(&mut reader, rt.alloc())?;
+    assert!(rt; input.len() > 65_536);
+    assert!(rt; !reader.is_empty());
+    let mut reader = &long[..65_536];
+    assert_eq!(rt; read_input(&mut reader, rt.alloc())?.len(), 65_536);
+    Ok(())
+}
