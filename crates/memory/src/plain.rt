@@ -3,7 +3,7 @@ ghost use Rattle.std.specs.Prelude.{◌≡◌};
 ghost use Rattle.memory.specs.Operations.{after};
 ghost use Rattle.std.proofs.Common.{rules};
 
-use crate::interface::{Memory, known_cell, place};
+use crate::interface::{Memory, place};
 use crate::operation::{Reply, Step};
 use crate::refusal::Refusal;
 use crate::store::Store;
@@ -38,24 +38,18 @@ impl<S: Store> Memory for S {
     }
 
     fn show(&self, cell: u32) -> Result<u32, Refusal> {
-        known_cell(cell)?;
-        Ok(self.get(cell))
+        self.get(cell)
     }
 
     fn read(&mut self, task: u32, cell: u32) -> Result<Reply<u32>, Refusal> {
         place(task, cell)?;
-        Ok(Reply {
-            value: self.get(cell),
-            share: 1,
-        })
+        let value = self.get(cell)?;
+        Ok(Reply { value, share: 1 })
     }
 
     fn write(&mut self, task: u32, cell: u32, number: u32) -> Result<Reply<()>, Refusal> {
         place(task, cell)?;
-        if number > S::LIMIT {
-            return Err(Refusal::Number);
-        }
-        self.set(cell, number);
+        self.set(cell, number)?;
         Ok(Reply {
             value: (),
             share: 1,
@@ -64,9 +58,9 @@ impl<S: Store> Memory for S {
 
     fn add(&mut self, task: u32, cell: u32, step: Step) -> Result<Reply<u32>, Refusal> {
         place(task, cell)?;
-        let old = self.get(cell);
+        let old = self.get(cell)?;
         let new = step.taken(old, S::LIMIT).ok_or(Refusal::Sum)?;
-        self.set(cell, new);
+        self.set(cell, new)?;
         Ok(Reply {
             value: old,
             share: 1,
@@ -84,9 +78,9 @@ impl<S: Store> Memory for S {
         if expected > S::LIMIT || new > S::LIMIT {
             return Err(Refusal::Number);
         }
-        let same = self.get(cell) == expected;
+        let same = self.get(cell)? == expected;
         if same {
-            self.set(cell, new);
+            self.set(cell, new)?;
         }
         Ok(Reply {
             value: same,

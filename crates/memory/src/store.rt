@@ -1,5 +1,9 @@
 // Seven numbers from 0 to a limit: what a memory keeps, in whatever form.
-ghost use Rattle.std.specs.Prelude.{◌≡◌, ℕ, ◌<◌, ◌≤◌, List, length, slice_index, slice_set};
+ghost use Rattle.std.specs.Prelude.{◌≡◌, ℕ, ◌≤◌, List, length, slice_index};
+ghost use Rattle.memory.specs.Calls.{cell_shown};
+ghost use Rattle.memory.specs.Stores.{Stored};
+
+use crate::refusal::Refusal;
 
 pub trait Store {
     // the largest number that it keeps
@@ -11,16 +15,13 @@ pub trait Store {
     // the seven numbers
     ghost numbers: { Self → List ℕ };
 
-    // A cell's number.
-    fn get(&self, cell: u32) -> u32
-        requires { cell < 7 }
-        ensures { result ≡ slice_index (numbers self.now) cell };
+    // A cell's number. Refused: 2.
+    fn get(&self, cell: u32) -> Result<u32, Refusal>
+        ensures { result ≡ cell_shown (numbers self.now) cell };
 
-    // Puts a number into a cell.
-    fn set(&mut self, cell: u32, number: u32)
-        requires place { cell < 7 }
-        requires small { number ≤ LIMIT }
-        ensures { numbers self.new ≡ slice_set (numbers self.old) cell number };
+    // Puts a number into a cell. Refused: 2, 3.
+    fn set(&mut self, cell: u32, number: u32) -> Result<(), Refusal>
+        ensures { Stored LIMIT numbers self.old cell number result self.new };
 
     ghost seven: { (s : Self) → length (numbers s) ≡ 7 };
 

@@ -1,6 +1,6 @@
 -- One field of four bits read and replaced, the other six kept.
 use Rattle.std.proofs.Common.{◌≡◌, ℕ, zero, suc, ◌-◌, ◌*◌, ◌/◌, ◌%◌, ◌^◌, ◌<◌, ◌≤◌, List, [], ◌∷◌, slice_set, refl, ap, ◌∙◌, arith}
-use Rattle.std.specs.Prelude.{bit_and, bit_or, slice_index}
+use Rattle.std.specs.Prelude.{bit_and, bit_or}
 use Rattle.std.proofs.lemmas.Nat.{and_mask, and_shr, or_shr, and_mod, or_mod}
 use Rattle.std.specs.Int.Bits.{and_zero_r, or_zero_l, or_zero_r}
 use Rattle.packed.specs.Fields.{field, fields}
@@ -17,10 +17,6 @@ at_each P a b c d e f g (suc (suc (suc (suc (suc (suc zero)))))) h = g
 at_each P a b c d e f g (suc (suc (suc (suc (suc (suc (suc i))))))) h = absurd (omega arith)
 
 -- the field at i, by a shift and a mask
-pub read_field : (bits i : ℕ) → i < 7 → bit_and (bits / 2 ^ (4 * i)) 15 ≡ slice_index (fields bits) i
-read_field bits i h =
-    and_mask (bits / 2 ^ (4 * i)) 4 ∙ at_each (λ i. field bits i ≡ slice_index (fields bits) i) refl refl refl refl refl refl refl i h
-
 -- a field of a masked number with other bits put in
 parts : (bits mask added j : ℕ) → field (bit_or (bit_and bits mask) added) j ≡ bit_or (bit_and (field bits j) (field mask j)) (field added j)
 parts bits mask added j =

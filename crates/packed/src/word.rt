@@ -7,6 +7,8 @@ ghost use Rattle.packed.specs.Fields.{fields};
 ghost use Rattle.packed.specs.Small.{fields_small};
 ghost use Rattle.std.proofs.Common.{rules};
 
+use memory::interface::known_cell;
+use memory::refusal::Refusal;
 use memory::store::Store;
 
 // the bits of a field
@@ -40,12 +42,18 @@ impl Store for Packed {
 
     ghost within = { λ s k. fields_small s.bits k };
 
-    fn get(&self, cell: u32) -> u32 {
-        (self.bits >> (WIDTH * cell)) & ONES
+    fn get(&self, cell: u32) -> Result<u32, Refusal> {
+        known_cell(cell)?;
+        Ok((self.bits >> (WIDTH * cell)) & ONES)
     }
 
-    fn set(&mut self, cell: u32, number: u32) {
+    fn set(&mut self, cell: u32, number: u32) -> Result<(), Refusal> {
+        known_cell(cell)?;
+        if number > ONES {
+            return Err(Refusal::Number);
+        }
         let others = !(ONES << (WIDTH * cell));
         self.bits = (self.bits & others) | (number << (WIDTH * cell));
+        Ok(())
     }
 }

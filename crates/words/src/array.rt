@@ -3,6 +3,8 @@ ghost use Rattle.std.specs.Prelude.{◌≡◌, ℕ, ◌≤◌, length, slice_ind
 ghost use Rattle.memory.specs.Cells.{zeros};
 ghost use Rattle.std.proofs.Common.{rules};
 
+use memory::interface::known_cell;
+use memory::refusal::Refusal;
 use memory::store::Store;
 
 #[derive(Clone, Copy)]
@@ -32,11 +34,15 @@ impl Store for Words {
 
     ghost within = { Prim.search rules };
 
-    fn get(&self, cell: u32) -> u32 {
-        self.numbers[cell as usize]
+    fn get(&self, cell: u32) -> Result<u32, Refusal> {
+        known_cell(cell)?;
+        Ok(self.numbers[cell as usize])
     }
 
-    fn set(&mut self, cell: u32, number: u32) {
+    // Any number of 32 bits is small enough.
+    fn set(&mut self, cell: u32, number: u32) -> Result<(), Refusal> {
+        known_cell(cell)?;
         self.numbers[cell as usize] = number;
+        Ok(())
     }
 }
