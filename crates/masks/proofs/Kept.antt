@@ -3,13 +3,13 @@
 use Rattle.std.proofs.Common.{◌≡◌, ℕ, zero, suc, ◌+◌, ◌-◌, ◌^◌, ◌≤◌, Bool, true, false, ◌&&◌, cond, eqb, List, [], ◌∷◌, ◌++◌, map, length, set, sym, refl, ap, ◌∙◌, subst, ⊎_elim, arith}
 use Rattle.std.proofs.lemmas.Nat.{pow_pos}
 use Rattle.std.proofs.lemmas.Bool.{and_parts, and_from, or_left, or_from, eqb-true, eq-eqb, ne_eqb, cases_eq, cases_Bool, both_ways, and_left, and_right, false_from_ne_true}
-use Rattle.queue.specs.Waiting.{waits, oldest, rest}
+use Rattle.queue.specs.Waiting.{waits, oldest, rest, can_join}
 use Rattle.sets.specs.Sets.{holds, without, count_to, is_task, contained, put_in, taken_out}
 use Rattle.sets.proofs.Known.{task_bounds, contained_task, put_in_task}
 use Rattle.sets.proofs.Put.{joined_sum}
 use Rattle.masks.specs.Sets.{set_before, waiting_of, nested, Kept}
 use Rattle.queue.proofs.Distinct.{tally, tally_waiting, at_most_64}
-use Rattle.queue.proofs.Lawful.{oldest_of, waits_task, oldest_task, lawful_push}
+use Rattle.queue.proofs.Lawful.{oldest_of, joins_of, waits_task, oldest_task, lawful_push}
 use Rattle.masks.proofs.Members.{holds_members, members_push, without_oldest}
 use Rattle.masks.proofs.Nested.{at_least, in_turn_is, nested_push, nested_rest}
 
@@ -93,9 +93,10 @@ kept_join : (sets : List ℕ) (who t who' : ℕ) → length sets ≡ 64 → Kept
 kept_join sets who t who' l k low high none e =
     tells (set sets (t - 1) who) who' (waiting_of sets who ++ t ∷ []) (subst (λ (w : ℕ). Kept (set sets (t - 1) who) w (waiting_of sets who ++ t ∷ [])) (sym e) (kept_push sets who (waiting_of sets who) t l low high none k))
 
-pub kept_put_in : (sets : List ℕ) (who t who' : ℕ) → length sets ≡ 64 → Kept sets who (waiting_of sets who) → 1 ≤ t → t ≤ 64 → waits (waiting_of sets who) t ≡ false → who' ≡ put_in who t → Tells (set sets (t - 1) who) who' (waiting_of sets who ++ t ∷ [])
-kept_put_in sets who t who' l k low high none e =
-    kept_join sets who t who' l k low high none (e ∙ put_in_task who t low high ∙ joined_sum who t (kept_waits sets who (waiting_of sets who) t k low ∙ none))
+pub kept_put_in : (sets : List ℕ) (who t who' : ℕ) → length sets ≡ 64 → Kept sets who (waiting_of sets who) → can_join (waiting_of sets who) t ≡ true → who' ≡ put_in who t → Tells (set sets (t - 1) who) who' (waiting_of sets who ++ t ∷ [])
+kept_put_in sets who t who' l k may e =
+    let j = joins_of (waiting_of sets who) t may in
+    kept_join sets who t who' l k j.low j.high j.none (e ∙ put_in_task who t j.low j.high ∙ joined_sum who t (kept_waits sets who (waiting_of sets who) t k j.low ∙ j.none))
 
 pub kept_quit : (sets sets' : List ℕ) (who t who' : ℕ) → length sets ≡ 64 → Kept sets who (waiting_of sets who) → oldest (waiting_of sets who) t ≡ true → sets' ≡ map (λ m. taken_out m t) sets → who' ≡ taken_out who t → Tells sets' who' (rest (waiting_of sets who))
 kept_quit sets sets' who t who' l k o d e =

@@ -3,9 +3,11 @@
 // The oldest is the one with nobody before it. Who joins has all that wait before
 // it, and who quits is taken out of every set, so that no place ever moves.
 ghost use Rattle.std.specs.Prelude.{◌≡◌, [], length};
+ghost use Rattle.queue.specs.Waiting.{waits, can_join};
 ghost use Rattle.masks.specs.Sets.{Kept, waiting_of};
 
 use crate::strike::strike;
+use queue::interface::known;
 use queue::order::Order;
 use sets::tasks::{contains, count, with_task, without_task};
 
@@ -30,27 +32,45 @@ impl Masks {
             who: 0,
         }
     }
+
+    // Whether the task waits.
+    fn is_waiting(&self, task: u32) -> bool
+        ensures { result ≡ waits (waiting_of self.now.before self.now.who) task }
+    {
+        contains(self.who, task)
+    }
+
+    // Whether the task can join.
+    fn can_join(&self, task: u32) -> bool
+        ensures { result ≡ can_join (waiting_of self.now.before self.now.who) task }
+    {
+        known(task).is_ok() && !self.is_waiting(task)
+    }
 }
 
 impl Order for Masks {
     ghost tasks = { λ s. waiting_of s.before s.who };
 
-    fn is_waiting(&self, task: u32) -> bool {
-        contains(self.who, task)
-    }
-
     fn is_oldest(&self, task: u32) -> bool {
         contains(self.who, task) && self.before[task as usize - 1] == 0
     }
 
-    fn append(&mut self, task: u32) {
+    fn append(&mut self, task: u32) -> bool {
+        if !self.can_join(task) {
+            return false;
+        }
         self.before[task as usize - 1] = self.who;
         self.who = with_task(self.who, task);
+        true
     }
 
-    fn remove(&mut self, task: u32) {
+    fn remove(&mut self, task: u32) -> bool {
+        if !self.is_oldest(task) {
+            return false;
+        }
         strike(&mut self.before, task);
         self.who = without_task(self.who, task);
+        true
     }
 
     fn held(&self) -> u32 {

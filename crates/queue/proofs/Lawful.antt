@@ -2,7 +2,7 @@
 -- tasks wait in it, and that it stays lawful where a task joins that does not wait.
 use Rattle.std.proofs.Common.{◌≡◌, ℕ, ◌≤◌, true, false, not, ◌&&◌, eqb, leb, List, [], ◌∷◌, ◌++◌, sym, refl, ⊎_elim, arith}
 use Rattle.std.proofs.lemmas.Bool.{and_parts, and_from, or_parts, or_from, or_left, or_cases, both_ways, not-true, not_from_false, leb-true, le-leb, eqb-true, eqb-false, ne_eqb}
-use Rattle.queue.specs.Waiting.{waits, oldest, lawful}
+use Rattle.queue.specs.Waiting.{waits, oldest, can_join, lawful}
 
 -- the oldest is a task that does not wait again behind itself
 pub record Oldest (x : ℕ) (xs : List ℕ) : Type 0 where
@@ -38,6 +38,18 @@ waits_task (x ∷ xs) t h w =
 pub oldest_task : (xs : List ℕ) (t : ℕ) → lawful xs ≡ true → oldest xs t ≡ true → (leb 1 t && leb t 64) ≡ true
 oldest_task [] t h w = absurd (both_ways false refl w)
 oldest_task (x ∷ xs) t h w = waits_task (x ∷ xs) t h (or_left (eqb x t) (waits xs t) w)
+
+-- who can join is a task that does not wait
+pub record Joins (xs : List ℕ) (t : ℕ) : Type 0 where
+  pub low : 1 ≤ t
+  pub high : t ≤ 64
+  pub none : waits xs t ≡ false
+
+pub joins_of : (xs : List ℕ) (t : ℕ) → can_join xs t ≡ true → Joins xs t
+joins_of xs t h =
+    let parts = and_parts (leb 1 t && leb t 64) (not (waits xs t)) h in
+    let task = and_parts (leb 1 t) (leb t 64) parts.0 in
+    record { low = leb-true 1 t task.0; high = leb-true t 64 task.1; none = not-true (waits xs t) parts.1 }
 
 -- who does not wait, does not wait either once another has joined
 not_in_push : (xs : List ℕ) (t x : ℕ) → waits xs x ≡ false → eqb t x ≡ false → waits (xs ++ t ∷ []) x ≡ false

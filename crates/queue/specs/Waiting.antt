@@ -18,6 +18,10 @@ abbrev pub rest : List ℕ → List ℕ
 rest [] = []
 rest (x ∷ xs) = xs
 
+-- whether a task can join: it is from 1 to 64, and does not wait yet
+abbrev pub can_join : List ℕ → ℕ → Bool
+can_join ws t = (nat_le 1 t && nat_le t 64) && not (waits ws t)
+
 -- each number in the list is a task's, from 1 to 64, and none stands twice
 abbrev pub lawful : List ℕ → Bool
 lawful [] = true

@@ -1,30 +1,27 @@
 // The waiting tasks in their order: what a queue keeps, in whatever form.
-ghost use Rattle.std.specs.Prelude.{◌≡◌, ℕ, ◌≤◌, true, false, List, [], ◌∷◌, ◌++◌, length};
-ghost use Rattle.queue.specs.Waiting.{waits, oldest, rest};
+ghost use Rattle.std.specs.Prelude.{◌≡◌, ℕ, List, [], ◌∷◌, ◌++◌, length};
+ghost use Rattle.std.specs.Bool.{OnTrue, OnFalse};
+ghost use Rattle.queue.specs.Waiting.{oldest, rest, can_join};
 
 pub trait Order {
     // the numbers of the waiting tasks, oldest first
     ghost tasks: { Self → List ℕ };
 
-    // Whether the task waits.
-    fn is_waiting(&self, task: u32) -> bool
-        ensures { result ≡ waits (tasks self.now) task };
-
     // Whether the task is the oldest that waits.
     fn is_oldest(&self, task: u32) -> bool
         ensures { result ≡ oldest (tasks self.now) task };
 
-    // The task joins behind the last. It does not wait yet.
-    fn append(&mut self, task: u32)
-        requires low { 1 ≤ task }
-        requires high { task ≤ 64 }
-        requires absent { waits (tasks self.old) task ≡ false }
-        ensures { tasks self.new ≡ tasks self.old ++ task ∷ [] };
+    // The task joins behind the last, if it is one (from 1 to 64) that does not wait yet. Whether it joined.
+    fn append(&mut self, task: u32) -> bool
+        ensures told { result ≡ can_join (tasks self.old) task }
+        ensures joined { OnTrue result (tasks self.new ≡ tasks self.old ++ task ∷ []) }
+        ensures same { OnFalse result (self.new ≡ self.old) };
 
-    // The oldest leaves, which is the task.
-    fn remove(&mut self, task: u32)
-        requires { oldest (tasks self.old) task ≡ true }
-        ensures { tasks self.new ≡ rest (tasks self.old) };
+    // The task leaves, if it is the oldest. Whether it left.
+    fn remove(&mut self, task: u32) -> bool
+        ensures told { result ≡ oldest (tasks self.old) task }
+        ensures left { OnTrue result (tasks self.new ≡ rest (tasks self.old)) }
+        ensures same { OnFalse result (self.new ≡ self.old) };
 
     // How many wait.
     fn held(&self) -> u32

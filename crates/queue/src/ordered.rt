@@ -8,10 +8,9 @@ impl<O: Order> Queue for O {
 
     fn join(&mut self, task: u32) -> Result<(), Refusal> {
         known(task)?;
-        if self.is_waiting(task) {
+        if !self.append(task) {
             return Err(Refusal::Waiting);
         }
-        self.append(task);
         Ok(())
     }
 
@@ -22,10 +21,9 @@ impl<O: Order> Queue for O {
 
     fn quit(&mut self, task: u32) -> Result<(), Refusal> {
         known(task)?;
-        if !self.is_oldest(task) {
+        if !self.remove(task) {
             return Err(Refusal::NotOldest);
         }
-        self.remove(task);
         Ok(())
     }
 

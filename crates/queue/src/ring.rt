@@ -4,9 +4,10 @@
 // at place 0 behind place 63. No task waits twice, so that 64 places suffice
 // and `join` never finds the ring full.
 ghost use Rattle.std.specs.Prelude.{◌≡◌, ◌<◌, ◌≤◌, true, [], length};
-ghost use Rattle.queue.specs.Waiting.{lawful};
+ghost use Rattle.queue.specs.Waiting.{waits, can_join, lawful};
 ghost use Rattle.queue.specs.Round.{round};
 
+use crate::interface::known;
 use crate::order::Order;
 
 #[derive(Clone, Copy)]
@@ -35,27 +36,45 @@ impl Ring {
             count: 0,
         }
     }
+
+    // Whether the task waits.
+    fn is_waiting(&self, task: u32) -> bool
+        ensures { result ≡ waits (round self.now.numbers self.now.start self.now.count) task }
+    {
+        (0..self.count).any(|k| self.numbers[(self.start + k) % 64] == task)
+    }
+
+    // Whether the task can join.
+    fn can_join(&self, task: u32) -> bool
+        ensures { result ≡ can_join (round self.now.numbers self.now.start self.now.count) task }
+    {
+        known(task).is_ok() && !self.is_waiting(task)
+    }
 }
 
 impl Order for Ring {
     ghost tasks = { λ s. round s.numbers s.start s.count };
 
-    fn is_waiting(&self, task: u32) -> bool {
-        (0..self.count).any(|k| self.numbers[(self.start + k) % 64] == task)
-    }
-
     fn is_oldest(&self, task: u32) -> bool {
         self.count > 0 && self.numbers[self.start] == task
     }
 
-    fn append(&mut self, task: u32) {
+    fn append(&mut self, task: u32) -> bool {
+        if !self.can_join(task) {
+            return false;
+        }
         self.numbers[(self.start + self.count) % 64] = task;
         self.count += 1;
+        true
     }
 
-    fn remove(&mut self, _task: u32) {
+    fn remove(&mut self, task: u32) -> bool {
+        if !self.is_oldest(task) {
+            return false;
+        }
         self.start = (self.start + 1) % 64;
         self.count -= 1;
+        true
     }
 
     fn held(&self) -> u32 {

@@ -5,7 +5,7 @@ use Rattle.std.proofs.lemmas.Iterator.Search.{any_from_yields_List}
 use Rattle.queue.specs.Waiting.{waits}
 use Rattle.queue.specs.Round.{round}
 use Rattle.queue.proofs.Round.{round_waits}
-use Rattle.queue.proofs.ring.RingOrder.is_waiting.Goals as goal
+use Rattle.queue.proofs.ring.Ring.is_waiting.Goals as goal
 
 pub returns : goal.returns
 returns c =

@@ -2,7 +2,7 @@
 use Rattle.std.proofs.Common.{◌∙◌}
 use Rattle.masks.specs.Sets.{waiting_of}
 use Rattle.masks.proofs.Kept.{contained_waits}
-use Rattle.masks.proofs.before.MasksOrder.is_waiting.Goals as goal
+use Rattle.masks.proofs.before.Masks.is_waiting.Goals as goal
 
 pub returns : goal.returns
 returns c =
