@@ -1,5 +1,5 @@
 -- The first mark among some bytes.
-use Rattle.std.proofs.Common.{◌≡◌, ℕ, zero, suc, ◌+◌, ◌*◌, ◌<◌, ◌≤◌, Bool, true, false, not, cond, List, [], ◌∷◌, map, length, take, None, Some, Option, MatchOption, refl, sym, ap, ◌∙◌, arith}
+use Rattle.std.proofs.Common.{◌≡◌, ℕ, zero, suc, ◌+◌, ◌*◌, ◌<◌, ◌≤◌, Bool, true, false, not, cond, List, [], ◌∷◌, map, length, take, drop, None, Some, Option, MatchOption, refl, sym, ap, ◌∙◌, arith}
 use Rattle.std.specs.Int.Count.{count_trailing_zeros}
 use Rattle.std.specs.List.{position_or_len}
 use Rattle.std.specs.Simd.Lanes.{mask_l}
@@ -33,9 +33,19 @@ module _ (p : ℕ → Bool) where
   stands (suc n) [] some = absurd (omega arith)
   stands (suc n) (x ∷ xs) some = one_longer (p x) (mask_l (map p (take n xs))) _ _ some (stands n xs)
 
-  -- the lowest bit of the mask m of the first 16, where one is set
-  pub lowest_mark : (xs : List ℕ) (m : ℕ) → 16 ≤ length xs → m ≡ mask_l (map p (take 16 xs)) → 0 < m → (position_or_len p xs ≡ count_trailing_zeros 64 m) × (count_trailing_zeros 64 m < length xs)
-  lowest_mark xs m long is some =
-      let set : 0 < mask_l (map p (take 16 xs)) = omega arith in
-      let same = ap (count_trailing_zeros 64) is ∙ trailing_mask_l p 64 (take 16 xs) (omega (arith, length-chunk 0 16 xs long)) set ∙ in_front 16 xs set in
-      (sym same, omega (arith, same, stands 16 xs set))
+  -- the lowest bit of the mask m of the first n, where one is set
+  pub lowest_mark : (n : ℕ) (xs : List ℕ) (m : ℕ) → n ≤ 64 → n ≤ length xs → m ≡ mask_l (map p (take n xs)) → 0 < m → (position_or_len p xs ≡ count_trailing_zeros 64 m) × (count_trailing_zeros 64 m < length xs)
+  lowest_mark n xs m small long is some =
+      let set : 0 < mask_l (map p (take n xs)) = omega arith in
+      let same = ap (count_trailing_zeros 64) is ∙ trailing_mask_l p 64 (take n xs) (omega (arith, length-chunk 0 n xs (omega arith))) set ∙ in_front n xs set in
+      (sym same, omega (arith, same, stands n xs set))
+
+  one_passed : (b : Bool) (m n i j : ℕ) → cond b 1 0 + 2 * m ≡ 0 → (m ≡ 0 → i ≡ n + j) → cond (not b) (1 + i) 0 ≡ suc n + j
+  one_passed true m n i j none same = absurd (omega arith)
+  one_passed false m n i j none same = omega (arith, same (omega arith))
+
+  -- no bit of the mask of the first n is set
+  pub none_marked : (n : ℕ) (xs : List ℕ) → n ≤ length xs → mask_l (map p (take n xs)) ≡ 0 → position_or_len p xs ≡ n + position_or_len p (drop n xs)
+  none_marked zero xs long none = omega arith
+  none_marked (suc n) [] long none = absurd (omega arith)
+  none_marked (suc n) (x ∷ xs) long none = one_passed (p x) (mask_l (map p (take n xs))) n _ _ none (none_marked n xs (omega arith))

@@ -1,7 +1,6 @@
-use Rattle.std.proofs.Common.{◌<◌, length, drop, Some, None, arith, rules}
+use Rattle.std.proofs.Common.{◌<◌, length, arith, rules}
 use Rattle.std.proofs.lemmas.Bool.Decides.{nat_tests}
 use Rattle.std.proofs.lemmas.List.{take_rest}
-use Rattle.script.proofs.Marks.{found}
 use Rattle.script.proofs.Pieces.{next_line, last_line}
 use Rattle.script.proofs.text.line_at.Goals as goal
 
@@ -12,12 +11,12 @@ returns-in-Some c =
     let some : at < length s = grind (arith, nat_tests) in
     search (rules, next_line s at some, take_rest s at)
 
-pub returns-in-Some-memchr : goal.returns-in-Some-memchr
-returns-in-Some-memchr c =
+pub returns-in-Some-far : goal.returns-in-Some-far
+returns-in-Some-far c =
     let s = c.args.input.now in
     let at = c.args.at in
     let some : at < length s = grind (arith, nat_tests) in
-    let end = found 10 (drop at s) (Some c.in-Some-memchr.end) (rw take_rest at c.in-Some-memchr.ensures) in
+    let end = rw take_rest at c.in-Some-far.ensures in
     search (rules, next_line s at some, take_rest s at, end.0, end.1)
 
 pub returns-in-None : goal.returns-in-None
@@ -25,5 +24,5 @@ returns-in-None c =
     let s = c.args.input.now in
     let at = c.args.at in
     let some : at < length s = grind (arith, nat_tests) in
-    let none = found 10 (drop at s) None (rw take_rest at c.in-None.ensures) in
+    let none = rw take_rest at c.in-None.ensures in
     search (rules, last_line s at some none, take_rest s at)
