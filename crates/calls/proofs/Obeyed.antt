@@ -102,9 +102,6 @@ module _ {M : Type 0} (does : Doing M) (limit : ℕ) (s z : State) (m n : M) whe
   asked_none None v a is h = (refl, h)
   asked_none (Some e) v a is h = absurd (is e h.2)
 
-  pub begun_task : (t : ℕ) → Calls does limit (begin t) s m done z n → task_refusal z t ≡ None
-  begun_task t h = same_task s z t (call_same (begin t) done h) (asked_none (task_refusal s t) _ done done_is_no h).0
-
   pub advanced_task : (t : ℕ) → Calls does limit (advance t) s m done z n → task_refusal z t ≡ None
   advanced_task t h = same_task s z t (call_same (advance t) done h) (asked_none (task_refusal s t) _ done done_is_no h).0
 

@@ -24,7 +24,7 @@ use Rattle.calls.specs.Accounts.{charged}
 use Rattle.calls.specs.declared.refusal.Refusal.{Refusal}
 use Rattle.calls.specs.declared.refusal.Refusal.TheVariants.{Finished, OtherRight, Upgrades}
 use Rattle.calls.specs.Questions.{advance_refusal, advance_refusal_at, begin_refusal, begin_refusal_at, ask, out_for, take_refusal, upgrade_refusal}
-use Rattle.calls.specs.Records.{arrived, begun, changes_fit, downgrading, fresh, leaving, writing_ahead, ahead_at, ahead_line, finishes_fit, pass_fits, rests_at, settled, in_order, sound, upgrading, with_out}
+use Rattle.calls.specs.Records.{arrived, begun, changes_fit, downgrading, fresh, leaving, writing_ahead, ahead_at, ahead_line, finishes_fit, pass_fits, rests_at, settled, in_order, upgrading, with_out}
 
 -- The parts of what a record keeps.
 
@@ -39,9 +39,6 @@ parts r h =
     let first = and_parts _ _ h in
     let others = and_parts _ _ first.1 in
     record { finishes = first.0; changes = others.0; pass = others.1 }
-
-pub sound_of : (r : Record) → in_order r ≡ true → sound r ≡ true
-sound_of r h = (parts r h).finishes
 
 pub whole : (r : Record) → Sound r → in_order r ≡ true
 unfolding in_order

@@ -1,6 +1,5 @@
 -- A lock that was opened.
 use Rattle.std.proofs.Common.{ltb, ◌&&◌, ◌≡◌, ℕ, zero, suc, ◌+◌, ◌<◌, ◌≤◌, Bool, true, List, [], ◌∷◌, ◌++◌, map, length, get_or, take, set, replicate, None, Ok, Result, Option, sym, refl, ap, ◌∙◌, subst, arith}
-use lib.ListN.{length-replicate}
 use Rattle.std.proofs.lemmas.List.{length-set, take_more_set, map_more, take_all}
 use Rattle.std.specs.List.{list_all}
 use Rattle.std.proofs.lemmas.Bool.{and_from, lt-ltb}
@@ -31,10 +30,9 @@ pass_replicate : (p : Record → Bool) (n : ℕ) (r : Record) → p r ≡ true �
 pass_replicate p zero r h = refl
 pass_replicate p (suc n) r h = and_from (p r) (list_all p (replicate n r)) h (pass_replicate p n r h)
 
-pub enlist_none : (r : Record) (roles : List ℕ) → r ≡ fresh Reader → Enlisted (replicate 64 r) roles 0
-enlist_none r roles new =
-    let kept = ap in_order new ∙ fresh_in_order Reader in
-    record { places = length-replicate 64 r; ordered = pass_replicate in_order 64 r kept; first = refl }
+-- records of which none ever began
+pub fresh_all : (n : ℕ) (r : Record) → r ≡ fresh Reader → list_all in_order (replicate n r) ≡ true
+fresh_all n r new = pass_replicate in_order n r (ap in_order new ∙ fresh_in_order Reader)
 
 pub enlist_more : (all : List Record) (roles : List ℕ) (i : ℕ) (r : Record) → Enlisted all roles i → i < length roles → length roles ≤ 64 → r ≡ enlisted (get_or roles i 0) → Enlisted (set all i r) roles (i + 1)
 enlist_more all roles i r e less few new = let kept = ap in_order new ∙ fresh_in_order (role_of (get_or roles i 0)) in record {

@@ -36,19 +36,17 @@ fn enlist(role: u8) -> Record
     Record::new(Role::try_from(role).unwrap_or(Role::Reader))
 }
 
-// The records of tasks with these roles, task 1 first.
-fn enlist_all(roles: &[u8]) -> Records
-    requires { length roles.now ≤ 64 }
-    ensures { records_of result ≡ map enlisted roles.now }
-{
-    let mut all = [Record::new(Role::Reader); 64];
-    // by index: over `iter_mut` the proof of what the array is afterwards did not close
-    for (i, role) in roles.iter().enumerate() {
-        all[i] = enlist(*role);
-    }
-    Records {
-        all,
-        count: roles.len() as u32,
+impl Records {
+    // Tasks with these roles, task 1 first, in place of those before. (In place, since 64 records are a lot to make and copy.)
+    fn enlist_all(&mut self, roles: &[u8])
+        requires { length roles.now ≤ 64 }
+        ensures { records_of self.new ≡ map enlisted roles.now }
+    {
+        // by index: over `iter_mut` the proof of what the array is afterwards did not close
+        for (i, role) in roles.iter().enumerate() {
+            self.all[i] = enlist(*role);
+        }
+        self.count = roles.len() as u32;
     }
 }
 
@@ -79,7 +77,10 @@ impl<'a, M: Memory, Q: Queue> Lock<'a, M, Q> {
             number,
             memory,
             queue,
-            records: enlist_all(&[]),
+            records: Records {
+                all: [Record::new(Role::Reader); 64],
+                count: 0,
+            },
             table,
         }
     }
@@ -120,7 +121,7 @@ impl<'a, M: Memory, Q: Queue> Lock<'a, M, Q> {
     {
         self.ask_open(roles)?;
         set_cells(&mut self.memory)?;
-        self.records = enlist_all(roles);
+        self.records.enlist_all(roles);
         Ok(())
     }
 }

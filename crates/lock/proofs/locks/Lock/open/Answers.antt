@@ -11,8 +11,8 @@ returns-clause-opens g c =
     let roles = c.args.roles.now in
     let asked = c.in_ok-ask_open.ensures in
     let wrote = c.in_ok-set_cells.ensures in
-    let opened = open_with _ roles c.enlist_all-self.ensures asked.1.0 in
-    let now = opened_is m.cells m.top m.does g.met.M.Memory.kept (view m g.Q.Queue s) _ s.memory _ roles wrote refl (g.met.M.Memory.seven s.memory) refl opened refl c.enlist_all-self.ensures refl in
+    let opened = open_with _ roles c.enlist_all.ensures asked.1.0 in
+    let now = opened_is m.cells m.top m.does g.met.M.Memory.kept (view m g.Q.Queue s) _ s.memory _ roles wrote refl (g.met.M.Memory.seven s.memory) refl opened refl c.enlist_all.ensures refl in
     (opens m.does (open_refused m g.Q.Queue s roles) (view m g.Q.Queue s) _ s.memory _ roles asked.0 wrote now, refl)
 
 pub returns-clause-promises : goal.returns-clause-promises
