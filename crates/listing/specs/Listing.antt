@@ -9,7 +9,7 @@ heading n = decimal n ++ space
 
 -- the line n, where it holds a note
 abbrev pub noted : ℕ → List ℕ → List ℕ
-noted n text = decimal n ++ space ++ text ++ newline
+noted n text = heading n ++ text ++ newline
 
 -- where a call gave an answer
 abbrev pub shown : ℕ → Answer → List ℕ

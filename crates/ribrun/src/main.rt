@@ -1,10 +1,10 @@
 // ribrun: reads a schedule from standard input, and prints its listing.
 #![tactic(auto)]
 
-ghost use Rattle.std.specs.Io.KnownBytes.{Appends};
-ghost use Rattle.std.specs.Prelude.{OnOk};
 ghost use Rattle.schedule.specs.Boards.{Follows, UnitMemory};
-ghost use Rattle.schedule.specs.Meaning.{first_board, listing};
+ghost use Rattle.schedule.specs.Gathering.{Writes};
+ghost use Rattle.schedule.specs.Meaning.{first_board, limit_of, listing};
+ghost use Rattle.script.specs.declared.call.MemoryKind.TheVariants as kind;
 
 mod reading;
 #[cfg(test)]
@@ -34,7 +34,7 @@ fn list_over<'b, 'a, W: Memory, P: Memory, R: Queue, K: Queue, T: Write>(
     packed_ring: &'b mut Lock<'a, Cache<P>, R>,
     packed_masks: &'b mut Lock<'a, Cache<P>, K>,
 ) -> io::Result<()>
-    ensures { UnitMemory 4294967295 W.Memory → UnitMemory 15 P.Memory → Follows W.Memory R.Queue words_ring.old first_board.lock → Follows W.Memory K.Queue words_masks.old first_board.lock → Follows P.Memory R.Queue packed_ring.old first_board.lock → Follows P.Memory K.Queue packed_masks.old first_board.lock → OnOk result (Appends (T.Write.contents out.old) (T.Write.contents out.new) (listing input.now)) }
+    ensures { UnitMemory (limit_of kind.Words) W.Memory → UnitMemory (limit_of kind.Packed) P.Memory → Follows W.Memory R.Queue words_ring.old first_board.lock → Follows W.Memory K.Queue words_masks.old first_board.lock → Follows P.Memory R.Queue packed_ring.old first_board.lock → Follows P.Memory K.Queue packed_masks.old first_board.lock → Writes (listing input.now) (T.Write.contents out.old) (T.Write.contents out.new) result }
 {
     print(
         input,
@@ -44,9 +44,9 @@ fn list_over<'b, 'a, W: Memory, P: Memory, R: Queue, K: Queue, T: Write>(
 }
 
 // Prints the listing of a schedule: one lock for each pair of memory and queue, each over 16 rows that
-// nobody has measured. Where nothing fails, the listing is what was written, and no more.
+// nobody has measured. The listing is what was written, and no more; where a write fails it is a front of the listing.
 fn list<T: Write>(input: &[u8], out: &mut T) -> io::Result<()>
-    ensures { OnOk result (Appends (T.Write.contents out.old) (T.Write.contents out.new) (listing input.now)) }
+    ensures { Writes (listing input.now) (T.Write.contents out.old) (T.Write.contents out.new) result }
 {
     let (mut a, mut b, mut c, mut d) = ([0; 16], [0; 16], [0; 16], [0; 16]);
     let mut words_ring = Lock::new(1, Cache::new(Words::new()), Ring::new(), &mut a);

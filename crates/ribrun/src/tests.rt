@@ -1,4 +1,6 @@
-// Reading an input from readers that give little at a time, are interrupted, or fail.
+// Reading an input from readers that give little at a time, are interrupted, or fail, and writing a listing where there is
+// too little room for it.
+use crate::list;
 use crate::reading::read_input;
 use std::io;
 use std::io::{ErrorKind, Read};
@@ -27,6 +29,8 @@ impl Read for Shaky<'_> {
 }
 
 const TEXT: &[u8] = b"O w r R\nE 1\n";
+
+const LISTING: &[u8] = b"1 ok 1\n2 ok 161 1\n";
 
 fn reader_that(fails: u32) -> Shaky<'static> {
     Shaky {
@@ -58,5 +62,24 @@ fn an_input_is_read_no_further_than_it_says_something(rt: HostRuntime) -> Result
     assert!(rt; !reader.is_empty());
     let mut reader = &long[..65_536];
     assert_eq!(rt; read_input(&mut reader, rt.alloc())?.len(), 65_536);
+    Ok(())
+}
+
+#[test]
+fn a_write_that_fails_leaves_a_front_of_the_listing(rt: HostRuntime) {
+    for room in 0..LISTING.len() {
+        let mut held = [0; 32];
+        let mut out = &mut held[..room];
+        assert!(rt; list(TEXT, &mut out).is_err());
+        assert_eq!(rt; &held[..room], &LISTING[..room]);
+    }
+}
+
+#[test]
+fn a_listing_for_which_there_is_room_is_written(rt: HostRuntime) -> Result<(), Fail> {
+    let mut held = [0; 18];
+    let mut out = &mut held[..];
+    list(TEXT, &mut out)?;
+    assert_eq!(rt; &held[..], LISTING);
     Ok(())
 }

@@ -130,7 +130,7 @@ after_ready (l ∷ ls) b g = after_ready ls (replied (parse l) b).1 (replied_rea
 
 -- The desk.
 
-module _ {W P R K : Type 0} (w : MemoryGhosts W) (p : MemoryGhosts P) (r : QueueGhosts R) (k : QueueGhosts K) (words : UnitMemory 4294967295 w) (packed : UnitMemory 15 p) where
+module _ {W P R K : Type 0} (w : MemoryGhosts W) (p : MemoryGhosts P) (r : QueueGhosts R) (k : QueueGhosts K) (words : UnitMemory (limit_of Words) w) (packed : UnitMemory (limit_of Packed) p) where
   module _ {B Q : Type 0} (mem : MemoryGhosts B) (que : QueueGhosts Q) (limit : ℕ) (unit : UnitMemory limit mem) where
     lock_agrees : (a : Ask) (o : Result Answer LockRefusal) (l l' : Lock (Cache B) Q) (x : Counted) → Follows mem que l x → Able limit x.state → Rattle.schedule.specs.Answers.Tells (cached mem) que l a o l' → (o ≡ (tell limit a x).0) × Follows mem que l' (tell limit a x).1
     lock_agrees a o l l' x f g h = let z = tell_agrees mem que limit unit a o l l' x l.memory.copies.seven f (subst (λ n. Able n x.state) (sym unit.limit_is) g) h in (z.0, z.1)

@@ -13,7 +13,8 @@ use Rattle.schedule.specs.Desks.{DeskTells}
 use Rattle.schedule.specs.Replies.{Heard, Obeyed}
 use Rattle.schedule.specs.Boards.{AtBoard, GivesListed, Stands, UnitMemory}
 use Rattle.schedule.specs.Listing.{DidLine, Gives, GivesLine, left, reply_bytes}
-use Rattle.schedule.specs.Meaning.{Board, board_after, first_board, replied}
+use Rattle.schedule.specs.Meaning.{Board, board_after, first_board, limit_of, replied}
+use Rattle.script.specs.declared.call.MemoryKind.TheVariants.{Words, Packed}
 use Rattle.schedule.proofs.Boards.{BoardReady, after_ready, line_agrees}
 
 board_snoc : (ls : List (List ℕ)) (l : List ℕ) (b : Board) → board_after b (ls ++ l ∷ []) ≡ (replied (parse l) (board_after b ls)).1
@@ -24,7 +25,7 @@ one_more : (ls : List (List ℕ)) (l : List ℕ) → length (ls ++ l ∷ []) ≡
 one_more [] l = refl
 one_more (x ∷ ls) l = omega (arith, one_more ls l)
 
-module _ {W P R K : Type 0} (w : MemoryGhosts W) (p : MemoryGhosts P) (r : QueueGhosts R) (k : QueueGhosts K) (words : UnitMemory 4294967295 w) (packed : UnitMemory 15 p) (input : List ℕ) where
+module _ {W P R K : Type 0} (w : MemoryGhosts W) (p : MemoryGhosts P) (r : QueueGhosts R) (k : QueueGhosts K) (words : UnitMemory (limit_of Words) w) (packed : UnitMemory (limit_of Packed) p) (input : List ℕ) where
   -- a line is obeyed as the board has it
   pub stands_on : (s t : Schedule W P R K) (b : Board) (l : List ℕ) (reply : Result Heard Refusal) → Stands w p r k input s b → left s ≡ l ∷ left t → t.reader.number ≡ s.reader.number + 1 → t.untold ≡ None → Obeyed (DeskTells w p r k) s.desk (parse l) reply t.desk → (reply ≡ (replied (parse l) b).0) × Stands w p r k input t (replied (parse l) b).1
   stands_on s t b l reply stands next number told obeyed =

@@ -19,10 +19,10 @@ use Rattle.schedule.specs.declared.desk.Desk.{Desk}
 use Rattle.schedule.specs.declared.gathered.LongNote.{LongNote}
 use Rattle.schedule.specs.declared.schedule.Schedule.{Schedule}
 use Rattle.schedule.specs.Boards.{AtBoard, Follows, PairFollows, Stands, UnitMemory}
-use Rattle.schedule.specs.Gathering.{GathersLine, GathersLines, GathersNext, Passed, waiting}
+use Rattle.schedule.specs.Gathering.{Cut, GathersLine, GathersLines, GathersNext, Passed, to_list, waiting}
 use Rattle.schedule.specs.Listing.{Begun, left, reply_bytes, whole_refused}
-use Rattle.schedule.specs.Meaning.{Board, first_board, listed, listing, replied}
-use Rattle.schedule.proofs.Held.{appends_more, appends_none, passed_more}
+use Rattle.schedule.specs.Meaning.{Board, first_board, limit_of, listed, listing, replied}
+use Rattle.schedule.proofs.Held.{appends_more, appends_none, cut_before, cut_behind, passed_before, passed_more}
 use Rattle.schedule.proofs.Listed.{stands_on, stands_still}
 
 module _ {W P R K : Type 0} (w : MemoryGhosts W) (p : MemoryGhosts P) (r : QueueGhosts R) (k : QueueGhosts K) (input : List ℕ) where
@@ -68,7 +68,7 @@ module _ {W P R K : Type 0} (w : MemoryGhosts W) (p : MemoryGhosts P) (r : Queue
     lines_begun stands = record { board = b; bytes = []; parts = refl; stands = stands; passed = record { written = []; whole = append-nil before; wrote = appends_none a } }
 
     -- one more line is obeyed
-    pub lines_on : (t u : Schedule W P R K) (after more : List ℕ) (long : Option LongNote) (c : Option (List ℕ)) → UnitMemory 4294967295 w → UnitMemory 15 p → Lines t after c → GathersLine w p r k t after u more long → Lines u (more ++ waiting long) c
+    pub lines_on : (t u : Schedule W P R K) (after more : List ℕ) (long : Option LongNote) (c : Option (List ℕ)) → UnitMemory (limit_of Words) w → UnitMemory (limit_of Packed) p → Lines t after c → GathersLine w p r k t after u more long → Lines u (more ++ waiting long) c
     lines_on t u after more long c words packed g line =
         let l = line.text in
         let reply = line.gathers.reply in
@@ -95,11 +95,21 @@ module _ {W P R K : Type 0} (w : MemoryGhosts W) (p : MemoryGhosts P) (r : Queue
     pub lines_out : (t : Schedule W P R K) (after rest : List ℕ) (c d : Option (List ℕ)) → Lines t after c → Passed after c rest d → Lines t rest d
     lines_out t after rest c d g passed = record { board = g.board; bytes = g.bytes; parts = g.parts; stands = g.stands; passed = passed_more (before ++ g.bytes) after rest a c d g.passed passed }
 
+    -- a front of those that are held, or of those to come, and no other byte
+    pub lines_cut : (t : Schedule W P R K) (after : List ℕ) (c d : Option (List ℕ)) (g : Lines t after c) → Cut (after ++ to_list t g.board) c d → Cut (before ++ to_list s b) a d
+    lines_cut t after c d g cut =
+        let later = to_list t g.board in
+        let whole : before ++ to_list s b ≡ (before ++ g.bytes) ++ later = ap (λ z. before ++ z) g.parts ∙ sym (append_assoc before g.bytes later) in
+        subst (λ z. Cut z a d) (sym whole) (cut_behind ((before ++ g.bytes) ++ later) (after ++ later) a c d (passed_before (before ++ g.bytes) later after a c g.passed) cut)
+
+    pub lines_stopped : (t : Schedule W P R K) (after : List ℕ) (c d : Option (List ℕ)) → Lines t after c → Cut after c d → Cut (before ++ to_list s b) a d
+    lines_stopped t after c d g cut = lines_cut t after c d g (cut_before after (to_list t g.board) c d cut)
+
     pub lines_at : (t : Schedule W P R K) (after same : List ℕ) (c d : Option (List ℕ)) → same ≡ after → d ≡ c → Lines t after c → Lines t same d
     lines_at t after same c d is at g = subst (λ z. Lines t same z) (sym at) (subst (λ z. Lines t z c) (sym is) g)
 
     -- no line was left
-    pub lines_ended : (t u : Schedule W P R K) (after more : List ℕ) (c : Option (List ℕ)) → UnitMemory 4294967295 w → UnitMemory 15 p → Lines t after c → GathersNext w p r k t after u more None → Lines u more c
+    pub lines_ended : (t u : Schedule W P R K) (after more : List ℕ) (c : Option (List ℕ)) → UnitMemory (limit_of Words) w → UnitMemory (limit_of Packed) p → Lines t after c → GathersNext w p r k t after u more None → Lines u more c
     lines_ended t u after more c words packed g (ended, same) = record {
       board = g.board;
       bytes = g.bytes;
@@ -129,3 +139,7 @@ module _ {W P R K : Type 0} (w : MemoryGhosts W) (p : MemoryGhosts P) (r : Queue
       let whole : last.written ≡ listing input =
       sym (append-nil last.written) ∙ ap (λ z. last.written ++ z) (sym empty) ∙ sym last.whole ∙ sym (append-nil g.bytes) ∙ ap (λ z. g.bytes ++ z) (sym (ap (listed t.reader.number g.board) none)) ∙ sym g.parts ∙ all in
       subst (Appends a d) whole last.wrote
+
+  -- nothing was held, and a front of all lines was written
+  pub cut_listing : (s : Schedule W P R K) (first : List ℕ) (a d : Option (List ℕ)) → first ≡ [] → to_list s first_board ≡ listing input → Cut (first ++ to_list s first_board) a d → Cut (listing input) a d
+  cut_listing s first a d none all cut = subst (λ z. Cut z a d) (ap (λ z. z ++ to_list s first_board) none ∙ all) cut

@@ -1,5 +1,5 @@
 -- How the bytes of a listing pass through a buffer on their way to a writer.
-use Rattle.std.specs.Prelude.{◌≡◌, ℕ, ◌+◌, List, [], ◌∷◌, ◌++◌, take, Some, None, Option, Result}
+use Rattle.std.specs.Prelude.{◌≡◌, ℕ, ◌+◌, List, [], ◌∷◌, ◌++◌, take, Some, None, MatchResult, Option, Result}
 use Rattle.std.specs.Io.KnownBytes.{Appends}
 use Rattle.calls.specs.declared.refusal.Refusal.{Refusal as LockRefusal}
 use Rattle.memory.specs.declared.interface.Memory.{Ghosts as MemoryGhosts}
@@ -27,6 +27,14 @@ pub record Passed (all : List ℕ) (a : Option (List ℕ)) (rest : List ℕ) (b 
   pub whole : all ≡ written ++ rest
   pub wrote : Appends a b written
 
+-- the same, where it is not said how many: a front of the bytes `all` was written, and no other byte
+abbrev pub Cut : List ℕ → Option (List ℕ) → Option (List ℕ) → Type 0
+Cut all a b = (rest : List ℕ) × Passed all a rest b
+
+-- all the bytes `all` were written, which led the writer from a to b; where that failed a front of them, and no other byte
+abbrev pub Writes : {E : Type 0} → List ℕ → Option (List ℕ) → Option (List ℕ) → Result (Unit {0}) E → Type 0
+Writes all a b r = MatchResult r (λ _. Appends a b all) (λ _. Cut all a b)
+
 -- the line of a note that is not gathered yet, if there is one
 abbrev pub waiting : Option LongNote → List ℕ
 waiting None = []
@@ -37,6 +45,11 @@ pub record Gathers {S : Type 0} (does : S → Ask → Result Answer LockRefusal 
   pub reply : Result Heard Refusal
   pub obeyed : Obeyed does s (parse text) reply t
   pub bytes : after ++ waiting long ≡ before ++ reply_bytes n reply
+
+module _ {W P R K : Type 0} where
+  -- what the lines that are left at s, which stands at the board b, are listed as
+  abbrev pub to_list : Schedule W P R K → Board → List ℕ
+  to_list s b = listed s.reader.number b (left s)
 
 module _ {W P R K : Type 0} (w : MemoryGhosts W) (p : MemoryGhosts P) (r : QueueGhosts R) (k : QueueGhosts K) where
   -- the next line is obeyed, which leads from s to t, and its line of the listing is gathered
@@ -57,6 +70,6 @@ module _ {W P R K : Type 0} (w : MemoryGhosts W) (p : MemoryGhosts P) (r : Queue
   pub record GathersLines (input : List ℕ) (s : Schedule W P R K) (b : Board) (before : List ℕ) (a : Option (List ℕ)) (t : Schedule W P R K) (after : List ℕ) (c : Option (List ℕ)) : Type 0 where
     pub board : Board
     pub bytes : List ℕ
-    pub parts : listed s.reader.number b (left s) ≡ bytes ++ listed t.reader.number board (left t)
+    pub parts : to_list s b ≡ bytes ++ to_list t board
     pub stands : Stands w p r k input t board
     pub passed : Passed (before ++ bytes) a after c

@@ -1,7 +1,7 @@
 // Gathering the lines of a listing, and writing them.
-ghost use Rattle.std.specs.Prelude.{◌≡◌, ◌++◌, ◌≤◌, false, Some, IfSome, OnOk, nat_lt};
+ghost use Rattle.std.specs.Prelude.{◌≡◌, ◌++◌, ◌≤◌, false, Some, IfSome, MatchResult, nat_lt};
 ghost use Rattle.schedule.specs.Desks.{DeskTells};
-ghost use Rattle.schedule.specs.Gathering.{Gathers, Passed, held, waiting};
+ghost use Rattle.schedule.specs.Gathering.{Cut, Gathers, Passed, held, waiting};
 ghost use Rattle.schedule.specs.Listing.{refusal_bytes};
 
 use crate::desk::Desk;
@@ -9,6 +9,7 @@ use crate::gathered::{FULL, Gathered, LongNote, SIZE};
 use crate::obeying::{obey, put_refusal};
 use crate::refusal::Refusal;
 use crate::way::Way;
+use crate::writing::write_whole;
 use listing::write::put_heading;
 use memory::interface::Memory;
 use queue::interface::Queue;
@@ -35,9 +36,9 @@ impl Gathered {
 
     // Writes what is held. Nothing is held then.
     pub(crate) fn write_out<T: Write>(&mut self, out: &mut T) -> io::Result<()>
-        ensures { OnOk result (Passed (held self.old) (T.Write.contents out.old) (held self.new) (T.Write.contents out.new) × (self.new.count ≡ 0)) }
+        ensures { MatchResult result (λ _. Passed (held self.old) (T.Write.contents out.old) (held self.new) (T.Write.contents out.new) × (self.new.count ≡ 0)) (λ _. Cut (held self.old) (T.Write.contents out.old) (T.Write.contents out.new)) }
     {
-        out.write_all(&self.bytes[..self.count])?;
+        write_whole(out, &self.bytes[..self.count])?;
         self.count = 0;
         Ok(())
     }
@@ -54,11 +55,11 @@ impl Gathered {
     #[cold]
     pub(crate) fn write_note<T: Write>(&mut self, note: LongNote<'_>, out: &mut T) -> io::Result<()>
         requires { self.old.count ≤ 4032 }
-        ensures { OnOk result (Passed (held self.old ++ waiting (Some note.entry)) (T.Write.contents out.old) (held self.new) (T.Write.contents out.new)) }
+        ensures { MatchResult result (λ _. Passed (held self.old ++ waiting (Some note.entry)) (T.Write.contents out.old) (held self.new) (T.Write.contents out.new)) (λ _. Cut (held self.old ++ waiting (Some note.entry)) (T.Write.contents out.old) (T.Write.contents out.new)) }
     {
         self.count += put_heading(&mut self.bytes[self.count..], note.number).unwrap();
         self.write_out(out)?;
-        out.write_all(note.text)?;
+        write_whole(out, note.text)?;
         self.bytes[0] = b'\n';
         self.count = 1;
         Ok(())

@@ -17,3 +17,4 @@ pub mod schedule;
 #[cfg(test)]
 mod tests;
 mod way;
+mod writing;

@@ -1,10 +1,10 @@
 // The listing of a whole schedule, written to whatever takes bytes.
-ghost use Rattle.std.specs.Prelude.{◌≡◌, ◌≤◌, ◌⊎◌, ℕ, List, [], true, false, None, IfSome, OnOk};
-ghost use Rattle.std.specs.Io.KnownBytes.{Appends};
+ghost use Rattle.std.specs.Prelude.{◌≡◌, ◌++◌, ◌≤◌, ◌⊎◌, ℕ, List, [], true, false, None, IfSome, MatchResult, OnOk};
 ghost use Rattle.schedule.specs.Boards.{AtBoard, Stands, UnitMemory};
-ghost use Rattle.schedule.specs.Gathering.{GathersLines, GathersNext, held};
+ghost use Rattle.schedule.specs.Gathering.{Cut, GathersLines, GathersNext, Writes, held, to_list};
 ghost use Rattle.schedule.specs.Listing.{left};
-ghost use Rattle.schedule.specs.Meaning.{Board, first_board, listing};
+ghost use Rattle.schedule.specs.Meaning.{Board, first_board, limit_of, listing};
+ghost use Rattle.script.specs.declared.call.MemoryKind.TheVariants.{Words, Packed};
 
 use crate::desk::Desk;
 use crate::gathered::{Gathered, LongNote};
@@ -47,7 +47,7 @@ impl<'s, W: Memory, P: Memory, R: Queue, K: Queue> Schedule<'s, '_, '_, W, P, R,
         out: &mut T,
     ) -> io::Result<()>
         requires { A.Way.over self.old.desk.chosen ≡ false → A.Way.fits self.old.desk.chosen }
-        ensures lines { (input : List ℕ) (b : Board) → UnitMemory 4294967295 W.Memory → UnitMemory 15 P.Memory → Stands W.Memory P.Memory R.Queue K.Queue input self.old b → OnOk result (GathersLines W.Memory P.Memory R.Queue K.Queue input self.old b (held gathered.old) (T.Write.contents out.old) self.new (held gathered.new) (T.Write.contents out.new)) }
+        ensures lines { (input : List ℕ) (b : Board) → UnitMemory (limit_of Words) W.Memory → UnitMemory (limit_of Packed) P.Memory → Stands W.Memory P.Memory R.Queue K.Queue input self.old b → MatchResult result (λ _. GathersLines W.Memory P.Memory R.Queue K.Queue input self.old b (held gathered.old) (T.Write.contents out.old) self.new (held gathered.new) (T.Write.contents out.new)) (λ _. Cut (held gathered.old ++ to_list self.old b) (T.Write.contents out.old) (T.Write.contents out.new)) }
         ensures ended { OnOk result ((A.Way.over self.new.desk.chosen ≡ true) ⊎ (left self.new ≡ [])) }
     {
         while !A::is_over(self.desk.chosen) {
@@ -70,7 +70,7 @@ impl<'s, W: Memory, P: Memory, R: Queue, K: Queue> Schedule<'s, '_, '_, W, P, R,
     // Once a lock is chosen: does the lines that are left in the way for this lock, and gathers their lines of the listing.
     fn gather_rest<T: Write>(&mut self, gathered: &mut Gathered, out: &mut T) -> io::Result<()>
         requires { (self.old.desk.chosen ≡ None) → left self.old ≡ [] }
-        ensures lines { (input : List ℕ) (b : Board) → UnitMemory 4294967295 W.Memory → UnitMemory 15 P.Memory → Stands W.Memory P.Memory R.Queue K.Queue input self.old b → OnOk result (GathersLines W.Memory P.Memory R.Queue K.Queue input self.old b (held gathered.old) (T.Write.contents out.old) self.new (held gathered.new) (T.Write.contents out.new)) }
+        ensures lines { (input : List ℕ) (b : Board) → UnitMemory (limit_of Words) W.Memory → UnitMemory (limit_of Packed) P.Memory → Stands W.Memory P.Memory R.Queue K.Queue input self.old b → MatchResult result (λ _. GathersLines W.Memory P.Memory R.Queue K.Queue input self.old b (held gathered.old) (T.Write.contents out.old) self.new (held gathered.new) (T.Write.contents out.new)) (λ _. Cut (held gathered.old ++ to_list self.old b) (T.Write.contents out.old) (T.Write.contents out.new)) }
         ensures ended { OnOk result (left self.new ≡ []) }
     {
         let Some(pair) = self.desk.chosen else {
@@ -93,14 +93,14 @@ impl<'s, W: Memory, P: Memory, R: Queue, K: Queue> Schedule<'s, '_, '_, W, P, R,
     }
 }
 
-// Prints the listing of the schedule with this text, its calls made at this desk. Where nothing fails, the
-// listing is what was written, and no more.
+// Prints the listing of the schedule with this text, its calls made at this desk. The listing is what was written, and no
+// more; where a write fails it is a front of the listing.
 pub fn print<W: Memory, P: Memory, R: Queue, K: Queue, T: Write>(
     input: &[u8],
     desk: Desk<'_, '_, W, P, R, K>,
     out: &mut T,
 ) -> io::Result<()>
-    ensures { UnitMemory 4294967295 W.Memory → UnitMemory 15 P.Memory → AtBoard W.Memory P.Memory R.Queue K.Queue desk.entry first_board → OnOk result (Appends (T.Write.contents out.old) (T.Write.contents out.new) (listing input.now)) }
+    ensures { UnitMemory (limit_of Words) W.Memory → UnitMemory (limit_of Packed) P.Memory → AtBoard W.Memory P.Memory R.Queue K.Queue desk.entry first_board → Writes (listing input.now) (T.Write.contents out.old) (T.Write.contents out.new) result }
 {
     let mut schedule = Schedule::new(input, desk);
     let mut gathered = Gathered::new();

@@ -1,7 +1,8 @@
 // Running a schedule line by line. Each line of the listing is written at the start of a lent buffer.
 ghost use Rattle.std.specs.Prelude.{◌≡◌, ℕ, List};
 ghost use Rattle.schedule.specs.Boards.{GivesListed, Stands, UnitMemory};
-ghost use Rattle.schedule.specs.Meaning.{Board};
+ghost use Rattle.schedule.specs.Meaning.{Board, limit_of};
+ghost use Rattle.script.specs.declared.call.MemoryKind.TheVariants.{Words, Packed};
 ghost use Rattle.schedule.specs.Listing.{Begun, Gives};
 
 use crate::desk::Desk;
@@ -40,7 +41,7 @@ impl<'s, 'b, 'a, W: Memory, P: Memory, R: Queue, K: Queue> Schedule<'s, 'b, 'a, 
     // at the end. An input that is too long gives one line, which tells 43. Refused: 39.
     pub fn line_bytes(&mut self, out: &mut [u8]) -> Result<Option<usize>, Refusal>
         ensures gives { Gives W.Memory P.Memory R.Queue K.Queue self.old out.old result self.new out.new }
-        ensures listed { (input : List ℕ) (b : Board) → UnitMemory 4294967295 W.Memory → UnitMemory 15 P.Memory → Stands W.Memory P.Memory R.Queue K.Queue input self.old b → GivesListed W.Memory P.Memory R.Queue K.Queue input self.old out.old b result self.new out.new }
+        ensures listed { (input : List ℕ) (b : Board) → UnitMemory (limit_of Words) W.Memory → UnitMemory (limit_of Packed) P.Memory → Stands W.Memory P.Memory R.Queue K.Queue input self.old b → GivesListed W.Memory P.Memory R.Queue K.Queue input self.old out.old b result self.new out.new }
     {
         if out.len() < ROOM {
             return Err(Refusal::Line(script::refusal::Refusal::Room));
