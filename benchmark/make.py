@@ -151,7 +151,6 @@ def bad_text(pick):
     if kind == 6:
         return pick.of(BAD_OPENINGS)
     return pick.of(["P 1 2", "P 1 2 03", f"P 1 2 {pick.of(HUGE)}", "P", "P 1 2 3 4"])
-    return letter + " " + pick.of(HUGE) + " " + pick.of(HUGE)
 
 
 def by_lock(pick):
