@@ -10,6 +10,15 @@ use Rattle.calls.specs.declared.record.Record.{Record}
 use Rattle.calls.specs.declared.refusal.Refusal.{Refusal}
 use Rattle.calls.specs.States.{State}
 use Rattle.calls.specs.Steps.{Answer, Carried, Shares, Verdict, after_deed, at_once, by_memory, deed_refusal, done, judge, line, no, refuse}
+use Rattle.std.proofs.Common.{true, false, List, length, get_or, set, cond, ◌∙◌}
+use Rattle.std.proofs.lemmas.List.{length-set}
+use Rattle.std.specs.Prelude.{MatchBool}
+use Rattle.sets.specs.Sets.{holds, joined}
+use Rattle.memory.specs.declared.operation.Operation.{Operation}
+use Rattle.memory.specs.declared.operation.Operation.TheVariants.{Read, Write, Add, Swap}
+use Rattle.cache.specs.declared.copies.Copies.{Copies}
+use Rattle.cache.specs.declared.layer.Cache.{Cache}
+use Rattle.cache.specs.Layers.{cached}
 use Rattle.lock.specs.Answering.{EachAnswers, Total, numbers_alone}
 
 module _ {M : Type 0} (mem : Ghosts M) (total : Total mem) where
@@ -40,3 +49,17 @@ module _ {M : Type 0} (mem : Ghosts M) (total : Total mem) where
 
 pub numbers_total : (limit : ℕ) → Total (numbers_alone limit)
 numbers_total limit ns t op free = (1, after op ns, (refl, refl))
+
+abbrev with_masks : {B : Type 0} → B → (masks : List ℕ) → length masks ≡ 7 → Cache B
+with_masks b masks seven = record { below = b; copies = record { masks = masks; seven = seven } }
+
+pub cached_total : {B : Type 0} (mem : Ghosts B) → Total mem → Total (cached mem)
+cached_total {B} mem total m t (Read c) free =
+    let held = get_or m.copies.masks c 0 in
+    (elim (holds held t) as (λ v. (share : ℕ) × (n : Cache B) × MatchBool v ((share ≡ 0) × (n.below ≡ m.below) × (n.copies.masks ≡ m.copies.masks)) (mem.does m.below t (Read c) share n.below × (n.copies.masks ≡ set m.copies.masks c (joined held t)))) [
+      | true ↦ (0, m, (refl, refl, refl))
+      | false ↦ let (share, n, d) = total m.below t (Read c) free in (share, with_masks n (set m.copies.masks c (joined held t)) (length-set m.copies.masks c _ ∙ m.copies.seven), (d, refl))
+    ])
+cached_total mem total m t (Write c k) free = let (share, n, d) = total m.below t (Write c k) free in (share, with_masks n (set m.copies.masks c 0) (length-set m.copies.masks c 0 ∙ m.copies.seven), (d, refl))
+cached_total mem total m t (Add c k) free = let (share, n, d) = total m.below t (Add c k) free in (share, with_masks n (set m.copies.masks c 0) (length-set m.copies.masks c 0 ∙ m.copies.seven), (d, refl))
+cached_total mem total m t (Swap c e k) free = let (share, n, d) = total m.below t (Swap c e k) free in (share, with_masks n (set m.copies.masks c 0) (length-set m.copies.masks c 0 ∙ m.copies.seven), (d, refl))

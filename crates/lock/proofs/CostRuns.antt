@@ -25,6 +25,7 @@ use Rattle.calls.specs.Records.{arrived, fresh, settled}
 use Rattle.calls.specs.States.{State, record_of}
 use Rattle.calls.specs.Steps.{Answer, Call, Calls, Carried, LineShares, Verdict, after_deed, at_once, judge, line, lined, refuse}
 use Rattle.lock.specs.Promises.{CostBound, Starts}
+use Rattle.lock.specs.History.{History}
 use Rattle.lock.specs.Runs.{Made, RunWhile}
 use Rattle.lock.proofs.Allowed.{allowed}
 use Rattle.lock.specs.Counted.{masks_after, unit_share}
@@ -36,7 +37,8 @@ use Rattle.lock.proofs.Holds.{Holds, at, line_moves, met, seen_at}
 use Rattle.lock.proofs.Judged.{Due, Lawful, account_of_call}
 use Rattle.lock.proofs.Meant.{Meant, Quiet, meant}
 use Rattle.lock.proofs.Opened.{seven_of}
-use Rattle.lock.proofs.Promised.{able, first_record, starts}
+use Rattle.lock.proofs.Histories.{told_by_run}
+use Rattle.lock.proofs.Promised.{able, first_record, no_history, starts}
 use Rattle.lock.proofs.Runs.{Able, call_able}
 
 -- An account is backed by units, at the ceiling each.
@@ -248,5 +250,8 @@ module _ {M : Type 0} (does : Doing M) (masks : M → List ℕ) (top : M → ℕ
   opened_cost None s z m n roles r none seven (ok, w, is) =
       let ceiling = top m in
       let first = opened_bounded does masks top law limit ceiling z m n roles (starts limit ceiling s z roles none is) (able limit ceiling s z roles none is) refl seven w in
-      subst (λ x. IfOk x (λ _. CostBound does limit z n (top m))) (sym ok) (λ es y p run t. bound does masks top law limit ceiling y p (run_bounded does masks top law limit ceiling _ es z y n p first run) t)
+      let open_able = able limit ceiling s z roles none is in
+      subst (λ x. IfOk x (λ _. CostBound does limit z n (top m))) (sym ok) (λ es y p run t low.
+      let k = told_by_run does limit z (no_history z roles (starts limit ceiling s z roles none is)) open_able _ es y n p run t low in
+      subst (λ (h : History). (record_of y t).account.cost ≤ top m * (20 + 5 * h.upgrades + 2 * h.downgrades)) k (bound does masks top law limit ceiling y p (run_bounded does masks top law limit ceiling _ es z y n p first run) t))
   opened_cost (Some e) s z m n roles r none seven (err, same, k) = subst (λ x. IfOk x (λ _. CostBound does limit z n (top m))) (sym err) tt

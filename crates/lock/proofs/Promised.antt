@@ -1,5 +1,5 @@
 -- A lock just opened keeps every promise.
-use Rattle.std.proofs.Common.{◌≡◌, ℕ, zero, suc, ◌≤◌, true, not, eqb, leb, List, [], ◌∷◌, length, get_or, map, None, sym, refl, ap, ◌∙◌, subst, arith}
+use Rattle.std.proofs.Common.{◌≡◌, ℕ, zero, suc, ◌-◌, ◌≤◌, true, not, eqb, leb, List, [], ◌∷◌, length, get_or, map, None, sym, refl, ap, ◌∙◌, subst, arith}
 use Rattle.std.proofs.lemmas.Bool.{eqb-true, leb-true}
 use Rattle.memory.specs.Calls.{Doing}
 use Rattle.lines.specs.declared.place.Role.{Role}
@@ -11,19 +11,30 @@ use Rattle.calls.specs.declared.refusal.Refusal.TheVariants.{Ceiling, Limit, Ope
 use Rattle.calls.specs.Census.{tasks_that}
 use Rattle.calls.specs.Opening.{are_roles, enlisted, open_refusal, opened_to, opening_cells}
 use Rattle.calls.specs.Records.{fresh, in_order}
-use Rattle.calls.specs.States.{State}
+use Rattle.calls.specs.States.{State, record_of}
 use Rattle.calls.specs.Steps.{row_answer}
 use Rattle.calls.proofs.Obeyed.{yes}
 use Rattle.calls.proofs.Sound.{fresh_in_order}
+use Rattle.lock.specs.History.{History, nothing_yet}
 use Rattle.lock.specs.Model.{model_run, unpaid, unpaid_record}
 use Rattle.lock.specs.Promises.{Promised, Starts}
 use Rattle.lock.proofs.Decided.{decided}
 use Rattle.lock.proofs.Facts.{OneTask, TwoTasks, seen, seen_cells}
+use Rattle.lock.proofs.Histories.{answers, attempts, charges, exclusive, granted, may_read, told, told_by_run}
 use Rattle.lock.proofs.Holds.{Holds, at}
 use Rattle.lock.proofs.Judged.{Lawful, pass_there}
+use Rattle.lock.proofs.Measured.{reads}
 use Rattle.lock.proofs.RowRuns.{read_told, run_row, table_still}
 use Rattle.lock.proofs.Runs.{Able, call_kept, excluded, run_able}
 use Rattle.lock.proofs.SoundRuns.{unbroken}
+
+pub first_record : (roles : List ℕ) (i : ℕ) → (o : Role) × (at (map enlisted roles) i ≡ fresh o)
+first_record [] i = (Reader, refl)
+first_record (b ∷ bs) zero = (role_of b, refl)
+first_record (b ∷ bs) (suc i) = first_record bs i
+
+pub no_history : (s : State) (roles : List ℕ) → Starts roles s → (t : ℕ) → told (record_of s t) ≡ nothing_yet
+no_history s roles starts t = let (o, is) = first_record roles (t - 1) in ap (λ rs. told (at rs (t - 1))) starts.2 ∙ ap told is
 
 module _ {M : Type 0} (does : Doing M) (limit : ℕ) (s : State) (m : M) (roles : List ℕ) where
   pub promised : Starts roles s → unpaid s ≡ s → Able limit s → Promised does limit s m roles
@@ -42,14 +53,20 @@ module _ {M : Type 0} (does : Doing M) (limit : ℕ) (s : State) (m : M) (roles 
         obedience = λ es z n run c a y p call. let k = call_kept does limit c z y n p a (run_able does limit _ es s z m n g run) call in (k.own, k.obeyed);
         soundness = λ es z n run. unbroken z (run_able does limit _ es s z m n g run).lawful;
         lines_decide = λ es z n run. decided does limit _ es s z m n g run ∙ ap (model_run es) free;
+        granted_calls = λ es z n run c a y p call. granted does limit s (no_history s roles starts) g _ es z m n run c a y p call;
+        fitting_answers = λ es z n run c a y p call o. answers does limit s (no_history s roles starts) g _ es z m n run c a y p call o;
+        measured_rows = λ es z n run w k t row a y p needs call.
+            let may = may_read does limit s (no_history s roles starts) g _ es z m n run w k t row needs in
+            reads a _ ((read_told does limit z y n p w k t row a may call).0 ∙ ap row_answer (run_row does limit _ row es s z m n run));
+        passes = λ es z n run t low. ap (λ (h : History). h.out) (told_by_run does limit s (no_history s roles starts) g _ es z m n run t low);
+        exclusive_passes = λ es z n run t low w e. exclusive does limit s (no_history s roles starts) g _ es z m n run t low w e;
+        counted_changes = λ es z n run t low. let k = told_by_run does limit s (no_history s roles starts) g _ es z m n run t low in (ap (λ (h : History). h.upgrades) k, ap (λ (h : History). h.downgrades) k);
+        counted_attempts = λ es z n run t low. ap (λ (h : History). h.begins) (told_by_run does limit s (no_history s roles starts) g _ es z m n run t low);
+        finished_attempts = λ es z n run c a y p call t low. attempts does limit c z y n p a (run_able does limit _ es s z m n g run) call t low;
+        charges = λ es z n run c a y p call. charges does limit c z y n p a (run_able does limit _ es s z m n g run) call;
       }
 
 -- The state of a lock just opened.
-
-pub first_record : (roles : List ℕ) (i : ℕ) → (o : Role) × (at (map enlisted roles) i ≡ fresh o)
-first_record [] i = (Reader, refl)
-first_record (b ∷ bs) zero = (role_of b, refl)
-first_record (b ∷ bs) (suc i) = first_record bs i
 
 count_first : (roles : List ℕ) → length (map enlisted roles) ≡ length roles
 count_first [] = refl

@@ -6,6 +6,8 @@ pub mod Runs
 pub mod Model
 pub mod Counted
 pub mod Rows
+pub mod History
 pub mod Promises
 pub mod Cases
 pub mod Answering
+pub mod Copying

@@ -28,4 +28,4 @@ Performed mem que m p t d (Ok told) n q =
     × (mem.cells n ≡ cells_after d (mem.cells m))
     × (que.waiting q ≡ waiting_after d t (que.waiting p))
 Performed mem que m p t d (Err e) n q =
-    (deed_refusal mem.limit t d (mem.cells m) (que.waiting p) ≡ Some e) × (n ≡ m) × (q ≡ p)
+    (deed_refusal mem.limit t d (mem.cells m) (que.waiting p) ≡ Some e) × (n ≡ m) × (que.waiting q ≡ que.waiting p)

@@ -28,4 +28,4 @@ first_told ws t = cond (nat_le 1 t) (cond (nat_le t 64) (Ok (oldest ws t)) (Err 
 -- or the first that is gives the refusal and the queue is as it was
 abbrev pub Called : {S : Type 0} → (S → List ℕ) → S → S → Option Refusal → List ℕ → Result (Unit {0}) Refusal → Type 0
 Called waiting s t refusal ws (Ok _) = (refusal ≡ None) × (waiting t ≡ ws)
-Called waiting s t refusal ws (Err e) = (refusal ≡ Some e) × (t ≡ s)
+Called waiting s t refusal ws (Err e) = (refusal ≡ Some e) × (waiting t ≡ waiting s)

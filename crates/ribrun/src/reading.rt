@@ -1,5 +1,5 @@
 // Reading an input in pieces. (What a reader is to fill has to be cleared first; a piece is cleared but once.)
-ghost use Rattle.std.specs.Prelude.{◌≡◌, ◌<◌, ◌⊎◌, length, IfOk, IfSome};
+ghost use Rattle.std.specs.Prelude.{◌≡◌, ◌<◌, ◌≤◌, ◌⊎◌, length, IfOk, IfSome};
 ghost use Rattle.std.specs.Io.KnownBytes.{Consumes, IsAtEnd};
 ghost use Rattle.schedule.specs.Meaning.{listing};
 
@@ -15,6 +15,7 @@ const PIECE: usize = 4096;
 pub fn read_input<R: Read, A: Allocator>(reader: &mut R, alloc: A) -> io::Result<Vec<u8, A>>
     ensures read { IfOk result (λ input. Consumes (R.Read.remaining reader.old) (R.Read.remaining reader.new) input.items) }
     ensures enough { IfOk result (λ input. IsAtEnd (R.Read.remaining reader.new) ⊎ (65536 < length input.items)) }
+    ensures bounded { IfOk result (λ input. length input.items ≤ 69632) }
     ensures same { IfOk result (λ input. IfSome (R.Read.remaining reader.old) (λ xs. listing input.items ≡ listing xs)) }
 {
     let mut input = Vec::new(alloc);

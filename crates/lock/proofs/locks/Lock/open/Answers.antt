@@ -2,6 +2,7 @@ use Rattle.std.proofs.Common.{refl}
 use Rattle.lock.specs.View.{open_refused, view}
 use Rattle.lock.proofs.Opened.{open_with, opened_is, opened_then, opens}
 use Rattle.lock.proofs.Promised.{opened_promises}
+use Rattle.lock.proofs.CostRuns.{opened_cost}
 use Rattle.lock.proofs.locks.Lock.open.Goals as goal
 
 pub returns-clause-opens : goal.returns-clause-opens
@@ -23,3 +24,12 @@ returns-clause-promises g c =
     let before = view m g.Q.Queue s in
     let asked = c.in_ok-ask_open.ensures in
     opened_promises m.limit (m.top s.memory) before _ roles asked.0 (opened_then m.does (open_refused m g.Q.Queue s roles) before _ s.memory _ roles _ asked.0 (returns-clause-opens g c).0) m.does _
+
+pub returns-clause-cost_bound : goal.returns-clause-cost_bound
+returns-clause-cost_bound g c = λ masks charges.
+    let m = g.M.Memory in
+    let s = c.args.self.now in
+    let roles = c.args.roles.now in
+    opened_cost m.does masks m.top
+    (λ a b t op share d. let k = charges.1 a b t op share d in record { within = k.0; left = k.1; same_ceiling = (g.met.M.Memory.kept a b t op share d).2 }) m.limit
+    (open_refused m g.Q.Queue s roles) (view m g.Q.Queue s) _ s.memory _ roles _ refl (charges.0 s.memory) (returns-clause-opens g c).0

@@ -1,0 +1,49 @@
+-- What a read answers by the number in its row.
+use Rattle.std.proofs.Common.{◌≡◌, ℕ, ◌<◌, ◌≤◌, false, eqb, leb, Some, None, refl, ◌∙◌, inl, inr, arith}
+use Rattle.std.proofs.lemmas.Bool.{cases_Bool, eqb-true, leb-true}
+use Rattle.calls.specs.declared.refusal.Refusal.TheVariants.{Stored}
+use Rattle.calls.specs.Steps.{Answer, gives, no, row_answer}
+use Rattle.lock.specs.History.{Reads}
+
+at_zero : (a : Answer) (n : ℕ) → a ≡ gives None → n ≡ 0 → Reads n a
+at_zero a n e z =
+    record {
+      thickness = λ v h. absurd (let k : ◌≡◌ {A = ℕ} 0 1 = cc in omega arith);
+      measured = λ low high. absurd (omega arith);
+      unmeasured = (λ h. z, λ h. e);
+      damaged = (λ h. absurd (let k : ◌≡◌ {A = ℕ} 0 1 = cc in omega arith), λ h. absurd (omega arith));
+    }
+
+within : (a : Answer) (n : ℕ) → a ≡ gives (Some n) → 1 ≤ n → n ≤ 1000000 → Reads n a
+within a n e low high =
+    record {
+      thickness = λ v h. let k : v ≡ n = cc in (omega arith, omega arith, k);
+      measured = λ x y. e;
+      unmeasured = (λ h. absurd (let k : ◌≡◌ {A = ℕ} 0 1 = cc in omega arith), λ h. absurd (omega arith));
+      damaged = (λ h. absurd (let k : ◌≡◌ {A = ℕ} 0 1 = cc in omega arith), λ h. absurd (omega arith));
+    }
+
+above : (a : Answer) (n : ℕ) → a ≡ no Stored → 1000000 < n → Reads n a
+above a n e high =
+    record {
+      thickness = λ v h. absurd (let k : ◌≡◌ {A = ℕ} 0 1 = cc in omega arith);
+      measured = λ x y. absurd (omega arith);
+      unmeasured = (λ h. absurd (let k : ◌≡◌ {A = ℕ} 0 1 = cc in omega arith), λ h. absurd (omega arith));
+      damaged = (λ h. high, λ h. e);
+    }
+
+pub reads : (a : Answer) (n : ℕ) → a ≡ row_answer n → Reads n a
+reads a n e =
+    elim (cases_Bool (eqb n 0)) [
+      | inl none ↦ at_zero a n (e ∙ rw none refl) (eqb-true n 0 none)
+      | inr some ↦ elim (cases_Bool (leb n 1000000)) [
+        | inl few ↦ within a n (e ∙ rw (some, few) refl) (is_some n some) (leb-true n 1000000 few)
+        | inr much ↦ above a n (e ∙ rw (some, much) refl) (is_much n much)
+      ]
+    ]
+  where
+    is_some : (n : ℕ) → eqb n 0 ≡ false → 1 ≤ n
+    is_some n h = grind arith
+
+    is_much : (n : ℕ) → leb n 1000000 ≡ false → 1000000 < n
+    is_much n h = grind arith
