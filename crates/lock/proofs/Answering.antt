@@ -10,13 +10,11 @@ use Rattle.calls.specs.declared.record.Record.{Record}
 use Rattle.calls.specs.declared.refusal.Refusal.{Refusal}
 use Rattle.calls.specs.States.{State}
 use Rattle.calls.specs.Steps.{Answer, Carried, Shares, Verdict, after_deed, at_once, by_memory, deed_refusal, done, judge, line, no, refuse}
-use Rattle.std.proofs.Common.{true, false, List, length, get_or, set, cond, ◌∙◌}
+use Rattle.std.proofs.Common.{true, false, List, length, get_or, set, ◌∙◌}
 use Rattle.std.proofs.lemmas.List.{length-set}
 use Rattle.std.specs.Prelude.{MatchBool}
 use Rattle.sets.specs.Sets.{holds, joined}
-use Rattle.memory.specs.declared.operation.Operation.{Operation}
 use Rattle.memory.specs.declared.operation.Operation.TheVariants.{Read, Write, Add, Swap}
-use Rattle.cache.specs.declared.copies.Copies.{Copies}
 use Rattle.cache.specs.declared.layer.Cache.{Cache}
 use Rattle.cache.specs.Layers.{cached}
 use Rattle.lock.specs.Answering.{EachAnswers, Total, numbers_alone}

@@ -1,6 +1,6 @@
--- What the calls made say of a task is what its record says: its pass, its changes and its finished attempts.
-use Rattle.std.proofs.Common.{◌≡◌, ℕ, ◌+◌, ◌-◌, ◌<◌, ◌≤◌, ◌≢◌, Bool, true, false, cond, min, ◌&&◌, eqb, leb, ltb, List, [], ◌∷◌, length, get_or, set, Some, None, Option, sym, refl, ap, ◌∙◌, subst, inl, inr, arith}
-use Rattle.std.proofs.lemmas.Bool.{and_from, and_parts, cases_Bool, cases_eq, eq-eqb, eqb-true, false≢true, le-leb, leb-true, lt-ltb, ltb-true, ne_eqb}
+-- What the calls made say of a task is what its record says: its pass, its changes, its attempts and what they cost.
+use Rattle.std.proofs.Common.{◌≡◌, ℕ, ◌+◌, ◌-◌, ◌<◌, ◌≤◌, ◌≢◌, ◌⊎◌, true, cond, min, ◌&&◌, eqb, ltb, List, [], ◌∷◌, length, get_or, set, Some, None, Option, sym, refl, ap, ◌∙◌, subst, inl, inr, arith}
+use Rattle.std.proofs.lemmas.Bool.{cases_eq, eq-eqb, false≢true, ltb-true, ne_eqb}
 use Rattle.std.proofs.lemmas.List.{get_or-set_same, get_or-set_other, length-set}
 use Rattle.memory.specs.Calls.{Doing}
 use Rattle.lines.specs.declared.deed.Deed.{Deed}
@@ -10,273 +10,33 @@ use Rattle.lines.specs.declared.place.Place.{Place}
 use Rattle.lines.specs.declared.place.Place.TheVariants.{Rest, Inside, Next}
 use Rattle.lines.specs.declared.place.Right.{Right}
 use Rattle.lines.specs.declared.place.Right.TheVariants.{Reading, Writing}
-use Rattle.lines.specs.declared.place.Role.{Role}
-use Rattle.lines.specs.declared.place.Role.TheVariants.{Reader, Writer}
-use Rattle.lines.specs.declared.place.Standing.{Standing}
-use Rattle.lines.specs.declared.track.Track.{Track}
-use Rattle.lines.specs.Classes.{section_at}
+use Rattle.lines.specs.declared.place.Role.TheVariants.{Reader}
 use Rattle.lines.specs.Deeds.{finds}
-use Rattle.lines.specs.Lines.{next_deed, settle}
-use Rattle.lines.specs.Rights.{right_at, right_of, same_right}
-use Rattle.lines.specs.Starts.{begin_line}
+use Rattle.lines.specs.Lines.{next_deed}
+use Rattle.lines.specs.Rights.{right_of}
 use Rattle.calls.specs.declared.account.Account.{Account}
 use Rattle.calls.specs.declared.record.Record.{Record}
 use Rattle.calls.specs.declared.refusal.Refusal.{Refusal}
-use Rattle.calls.specs.declared.refusal.Refusal.TheVariants.{Finished, NoPass, NoRow, NoTask, OtherLock, OtherRight, Shut, Stored, Thickness, Upgrades}
+use Rattle.calls.specs.declared.refusal.Refusal.TheVariants.{Upgrades}
 use Rattle.calls.specs.Accounts.{charged}
-use Rattle.calls.specs.Questions.{ask, advance_refusal, advance_refusal_at, begin_refusal, begin_refusal_at, is_out, out_for, pass_refusal, row_refusal, take_refusal, task_refusal, thickness_refusal, upgrade_refusal}
+use Rattle.calls.specs.Questions.{advance_refusal, begin_refusal, out_for, pass_refusal, row_refusal, take_refusal, task_refusal, thickness_refusal, upgrade_refusal}
 use Rattle.calls.specs.Records.{arrived, begun, downgrading, fresh, leaving, settled, upgrading, with_out}
 use Rattle.calls.specs.States.{State, record_of, with_record, with_row}
-use Rattle.calls.specs.Steps.{Answer, Call, Calls, Carried, LineShares, Shares, Verdict, advance, after_deed, asked, at_once, begin, done, downgrade, gives, hands, judge, lay_back, leave, line, lined, no, put, read, refuse, row_answer, take, upgrade}
+use Rattle.calls.specs.Steps.{Answer, Call, Calls, Carried, LineShares, Shares, Verdict, advance, after_deed, asked, at_once, begin, done, downgrade, hands, judge, lay_back, leave, line, lined, put, read, refuse, row_answer, take, upgrade}
 use Rattle.calls.proofs.Obeyed.{call_same, yes}
 use Rattle.calls.proofs.Sound.{has_out, parts}
-use Rattle.lock.specs.History.{AnswersSo, Finishes, History, IsDamage, Needs, OnLine, cost_in, cost_made, comes_to_rest, history, history_from, made_in, nothing_yet, obeyed_in, task_of, unfinished, was_obeyed}
-use Rattle.lock.specs.Promises.{HasRight, MayRead, Obeyed, TellsShare}
-use Rattle.lock.specs.Runs.{Made, RunWhile}
+use Rattle.lock.specs.Charges.{Charges, Counts, Finishes, TellsShare, cost_after, cost_made, unfinished}
+use Rattle.lock.specs.History.{History, history, history_from, made_in, nothing_yet, obeyed_in}
+use Rattle.lock.specs.Needs.{AnswersSo, IsDamaged, Needs}
+use Rattle.lock.specs.Promises.{HasRight, Obeyed}
+use Rattle.lock.proofs.RowRuns.{MayRead}
+use Rattle.lock.specs.Runs.{Made, RunWhile, task_of, was_obeyed}
 use Rattle.lock.proofs.Allowed.{allowed}
 use Rattle.lock.proofs.Judged.{Holding, Lawful, pass_there, task_there}
 use Rattle.lock.proofs.Meant.{Meant, meant}
-use Rattle.lock.proofs.Runs.{Able, call_able, call_kept, excluded, run_able}
-
--- what a record says
-abbrev pub told : Record → History
-told r = record { out = r.out; begins = r.account.finished + unfinished r.track.place; upgrades = r.account.u; downgrades = r.account.g }
-
--- what a record says, by its parts
-abbrev says_of : Option Right → ℕ → ℕ → ℕ → History
-says_of o n u g = record { out = o; begins = n; upgrades = u; downgrades = g }
-
--- a line of a task that is in an attempt leaves all this
-arrived_told : (p : Place) (o : Option Right) (a : Account) → says_of o ((arrived p a).finished + unfinished p) (arrived p a).u (arrived p a).g ≡ says_of o (a.finished + 1) a.u a.g
-arrived_told Rest o a = ap (λ n. says_of o n a.u a.g) (omega arith)
-arrived_told Inside o a = refl
-arrived_told (Next l) o a = refl
-
-cond_same : {A : Type 0} (b : Bool) (x : A) → x ≡ cond b x x
-cond_same true x = refl
-cond_same false x = refl
-
--- Coming to rest.
-
-never : (p : Place) → comes_to_rest p p ≡ false
-never Rest = refl
-never Inside = refl
-never (Next l) = refl
-
-stays : (p q : Place) (a b : Account) → q ≡ p → b ≡ a → (b.finished ≡ a.finished + cond (comes_to_rest p q) 1 0) × (b.total ≡ a.total + cond (comes_to_rest p q) b.cost 0)
-stays p q a b e k = rw (e, k, never p) (omega arith, omega arith)
-
-quiet_finishes : (r q : Record) → q.track ≡ r.track → q.account ≡ r.account → Finishes r q
-quiet_finishes r q e k = stays r.track.place q.track.place r.account q.account (ap (λ (x : Track). x.place) e) k
-
--- a task at this place is in an attempt
-abbrev Away : Place → Type 0
-Away Rest = ⊥
-Away Inside = Unit {0}
-Away (Next l) = Unit {0}
-
-moves : (p q : Place) (a b : Account) → Away p → b.finished ≡ a.finished → b.total ≡ a.total → ((arrived q b).finished ≡ a.finished + cond (comes_to_rest p q) 1 0) × ((arrived q b).total ≡ a.total + cond (comes_to_rest p q) (arrived q b).cost 0)
-moves Rest q a b h e k = absurd h
-moves Inside Rest a b h e k = (ap (λ n. n + 1) e, ap (λ n. n + b.cost) k)
-moves Inside Inside a b h e k = (omega arith, omega arith)
-moves Inside (Next l) a b h e k = (omega arith, omega arith)
-moves (Next l) Rest a b h e k = (ap (λ n. n + 1) e, ap (λ n. n + b.cost) k)
-moves (Next l) Inside a b h e k = (omega arith, omega arith)
-moves (Next l) (Next j) a b h e k = (omega arith, omega arith)
-
-some_none : {A : Type 0} (x : A) → ◌≡◌ {A = Option A} (Some x) None → ⊥
-some_none x h = let z : ◌≡◌ {A = ℕ} 0 1 = cc in omega arith
-
-none_some : {A : Type 0} (x : A) → ◌≡◌ {A = Option A} None (Some x) → ⊥
-none_some x h = let z : ◌≡◌ {A = ℕ} 0 1 = cc in omega arith
-
--- the first line of an attempt ends none
-begins : (p : Place) (o : Role) (k : Track) (f : Found) (n : ℕ) (a b : Account) → begin_refusal_at p n ≡ None → b.finished ≡ a.finished → b.total ≡ a.total →
-    ((arrived (settle (begin_line o) k f).place b).finished ≡ a.finished + cond (comes_to_rest p (settle (begin_line o) k f).place) 1 0) × ((arrived (settle (begin_line o) k f).place b).total ≡ a.total + cond (comes_to_rest p (settle (begin_line o) k f).place) (arrived (settle (begin_line o) k f).place b).cost 0)
-begins Rest Reader k f n a b h e j = (omega arith, omega arith)
-begins Rest Writer k f n a b h e j = (omega arith, omega arith)
-begins Inside o k f n a b h e j = absurd (some_none _ h)
-begins (Next l) o k f n a b h e j = absurd (some_none _ h)
-
-away_unfinished : (p : Place) → Away p → unfinished p ≡ 1
-away_unfinished Rest h = absurd h
-away_unfinished Inside h = refl
-away_unfinished (Next l) h = refl
-
-rests_before : (p : Place) (n : ℕ) → begin_refusal_at p n ≡ None → unfinished p ≡ 0
-rests_before Rest n h = refl
-rests_before Inside n h = absurd (some_none _ h)
-rests_before (Next l) n h = absurd (some_none _ h)
-
-on_line_away : (p : Place) → advance_refusal_at p ≡ None → Away p
-on_line_away Rest h = some_none _ h
-on_line_away Inside h = absurd (some_none _ h)
-on_line_away (Next l) h = tt
-
-right_away : (p : Place) (o : Role) (s : Standing) (w : Right) → right_at p o s ≡ Some w → Away p
-right_away Rest o s w h = none_some _ h
-right_away Inside o s w h = tt
-right_away (Next l) o s w h = absurd (none_some _ h)
-
--- What the questions on a pass tell.
-
-same_is : (v w : Right) → same_right v w ≡ true → v ≡ w
-same_is Reading Reading h = refl
-same_is Reading Writing h = absurd (false≢true h)
-same_is Writing Reading h = absurd (false≢true h)
-same_is Writing Writing h = refl
-
-same_itself : (w : Right) → same_right w w ≡ true
-same_itself Reading = refl
-same_itself Writing = refl
-
-out_is : (o : Option Right) (w : Right) → out_for o w ≡ true → o ≡ Some w
-out_is None w h = absurd (false≢true h)
-out_is (Some v) w h = ap Some (same_is v w h)
-
-takes : (has out : Option Right) (w : Right) → take_refusal has out w ≡ None → (has ≡ Some w) × (out ≡ None)
-takes None out w h = absurd (some_none _ h)
-takes (Some v) (Some x) w h = absurd (some_none _ h)
-takes (Some v) None w h = (ap Some (same_is v w (yes (same_right v w) OtherRight None h).0), refl)
-
-may_begin : (p : Place) (n : ℕ) → begin_refusal_at p n ≡ None → (p ≡ Rest) × (n + unfinished p < 1000000)
-may_begin Rest n h = (refl, let k = ltb-true n 1000000 (yes (ltb n 1000000) Finished None h).0 in omega arith)
-may_begin Inside n h = absurd (some_none _ h)
-may_begin (Next l) n h = absurd (some_none _ h)
-
-may_advance : (p : Place) → advance_refusal_at p ≡ None → OnLine p
-may_advance Rest h = absurd (some_none _ h)
-may_advance Inside h = absurd (some_none _ h)
-may_advance (Next l) h = (l, refl)
-
-in_rows : (row rows : ℕ) → row_refusal row rows ≡ None → row < rows
-in_rows row rows h = ltb-true row rows (yes (ltb row rows) NoRow None h).0
-
-is_thickness : (n : ℕ) → thickness_refusal n ≡ None → (1 ≤ n) × (n ≤ 1000000)
-is_thickness n h =
-    let a = yes (leb 1 n) Thickness _ h in
-    let b = yes (leb n 1000000) Thickness None a.1 in
-    (leb-true 1 n a.0, leb-true n 1000000 b.0)
-
-shown : (s : State) (w : Right) (k t : ℕ) → pass_refusal s w k t ≡ None → (k ≡ s.number) × ((record_of s t).out ≡ Some w)
-shown s w k t h =
-    let a = yes s.opened Shut _ h in
-    let b = yes (eqb k s.number) OtherLock _ a.1 in
-    let c = yes (is_out s w t) NoPass None b.1 in
-    let out : out_for (record_of s t).out w ≡ true = (and_parts _ _ c.0).1 in
-    (eqb-true k s.number b.0, out_is (record_of s t).out w out)
-
--- What a call needs, by the state itself.
-abbrev NeedsIn : State → Call → Type 0
-NeedsIn s c = Needs s.number (length s.records) (length s.table) (told (record_of s (task_of c))) (record_of s (task_of c)).track c
-
--- a call that has it meets no question
-
-clear_task : (s : State) (t : ℕ) → s.opened ≡ true → 1 ≤ t → t ≤ length s.records → task_refusal s t ≡ None
-clear_task s t opened low high =
-    ap (λ b. ask b Shut (ask (leb 1 t) NoTask (ask (leb t (length s.records)) NoTask None))) opened
-    ∙ ap (λ b. ask b NoTask (ask (leb t (length s.records)) NoTask None)) (le-leb 1 t low)
-    ∙ ap (λ b. ask b NoTask None) (le-leb t (length s.records) high)
-
-clear_pass : (s : State) (w : Right) (k t : ℕ) → s.opened ≡ true → 1 ≤ t → t ≤ length s.records → k ≡ s.number → (record_of s t).out ≡ Some w → pass_refusal s w k t ≡ None
-clear_pass s w k t opened low high number e =
-    let out : is_out s w t ≡ true = and_from _ _ (and_from _ _ (le-leb 1 t low) (le-leb t (length s.records) high)) (ap (λ o. out_for o w) e ∙ same_itself w) in
-    ap (λ b. ask b Shut (ask (eqb k s.number) OtherLock (ask (is_out s w t) NoPass None))) opened
-    ∙ ap (λ b. ask b OtherLock (ask (is_out s w t) NoPass None)) (eq-eqb k s.number number)
-    ∙ ap (λ b. ask b NoPass None) out
-
-clear_begin : (p : Place) (n : ℕ) → p ≡ Rest → n + unfinished p < 1000000 → begin_refusal_at p n ≡ None
-clear_begin Rest n e h = ap (λ b. ask b Finished None) (lt-ltb n 1000000 (omega arith))
-clear_begin Inside n e h = let z : ◌≡◌ {A = ℕ} 0 1 = cc in absurd (omega arith)
-clear_begin (Next l) n e h = let z : ◌≡◌ {A = ℕ} 0 1 = cc in absurd (omega arith)
-
-clear_take : (has out : Option Right) (w : Right) → has ≡ Some w → out ≡ None → take_refusal has out w ≡ None
-clear_take has out w e k = rw (e, k, same_itself w) refl
-
-clear_row : (row rows : ℕ) → row < rows → row_refusal row rows ≡ None
-clear_row row rows h = ap (λ b. ask b NoRow None) (lt-ltb row rows h)
-
-clear_thickness : (n : ℕ) → 1 ≤ n → n ≤ 1000000 → thickness_refusal n ≡ None
-clear_thickness n low high = ap (λ b. ask b Thickness (ask (leb n 1000000) Thickness None)) (le-leb 1 n low) ∙ ap (λ b. ask b Thickness None) (le-leb n 1000000 high)
-
-damage_alone : (n : ℕ) (e : Refusal) → row_answer n ≡ no e → e ≡ Stored
-damage_alone n e h =
-    elim (cases_Bool (eqb n 0)) [
-      | inl none ↦ let k : row_answer n ≡ gives None = rw none refl in absurd (gives_no None e (sym k ∙ h))
-      | inr some ↦ elim (cases_Bool (leb n 1000000)) [
-        | inl few ↦ let k : row_answer n ≡ gives (Some n) = rw (some, few) refl in absurd (gives_no (Some n) e (sym k ∙ h))
-        | inr much ↦ let k : row_answer n ≡ no Stored = rw (some, much) refl in no_is Stored e (sym k ∙ h)
-      ]
-    ]
-  where
-    gives_no : (o : Option ℕ) (e : Refusal) → gives o ≡ no e → ⊥
-    gives_no o e h = let z : ◌≡◌ {A = ℕ} 0 1 = cc in omega arith
-
-    no_is : (d e : Refusal) → no d ≡ no e → e ≡ d
-    no_is d e h = cc
-
-told_row : (n : ℕ) → was_obeyed (row_answer n) ≡ true → (o : Option ℕ) × (row_answer n ≡ gives o)
-told_row n h =
-    elim (cases_Bool (eqb n 0)) [
-      | inl none ↦ (None, rw none refl)
-      | inr some ↦ elim (cases_Bool (leb n 1000000)) [
-        | inl few ↦ (Some n, rw (some, few) refl)
-        | inr much ↦ let k : row_answer n ≡ no Stored = rw (some, much) refl in absurd (false≢true (sym (ap was_obeyed k) ∙ h))
-      ]
-    ]
-
-done_no : (e : Refusal) → done ≡ no e → ⊥
-done_no e h = let z : ◌≡◌ {A = ℕ} 0 1 = cc in omega arith
-
-hands_no : (w : Right) (k t : ℕ) (e : Refusal) → hands w k t ≡ no e → ⊥
-hands_no w k t e h = let z : ◌≡◌ {A = ℕ} 0 1 = cc in omega arith
-
--- a verdict that is no refusal, but for a damaged row
-abbrev Clear : Call → Verdict → Type 0
-Clear c (refuse e) = ⊥
-Clear c (line t r) = Unit {0}
-Clear c (at_once a z) = (e : Refusal) → a ≡ no e → IsDamage c e
-
-asked_clear : (c : Call) (o : Option Refusal) (v : Verdict) → o ≡ None → Clear c v → Clear c (asked o v)
-asked_clear c o v e h = subst (λ x. Clear c (asked x v)) (sym e) h
-
-judged_clear : (c : Call) (s : State) → s.opened ≡ true → NeedsIn s c → Clear c (judge c s)
-judged_clear (begin t) s opened (low, high, (rests, few)) =
-    let r = record_of s t in
-    asked_clear (begin t) (task_refusal s t) (asked (begin_refusal r) (line t (begun r))) (clear_task s t opened low high)
-    (asked_clear (begin t) (begin_refusal r) (line t (begun r)) (clear_begin r.track.place r.account.finished rests few) tt)
-judged_clear (advance t) s opened (low, high, (l, is)) =
-    let r = record_of s t in
-    asked_clear (advance t) (task_refusal s t) (asked (advance_refusal r) (line t r)) (clear_task s t opened low high) (asked_clear (advance t) (advance_refusal r) (line t r) (ap advance_refusal_at is) tt)
-judged_clear (take w t) s opened (low, high, (has, none)) =
-    let r = record_of s t in
-    let free = take_refusal (right_of r.track) r.out w in
-    let v = at_once (hands w s.number t) (with_record s t (with_out r (Some w))) in
-    asked_clear (take w t) (task_refusal s t) (asked free v) (clear_task s t opened low high) (asked_clear (take w t) free v (clear_take (right_of r.track) r.out w has none) (λ e h. hands_no w s.number t e h))
-judged_clear (lay_back w k t) s opened (low, high, (number, out)) =
-    asked_clear (lay_back w k t) (pass_refusal s w k t) (at_once done (with_record s t (with_out (record_of s t) None))) (clear_pass s w k t opened low high number out) (λ e h. done_no e h)
-judged_clear (upgrade k t) s opened (low, high, ((number, out), few)) =
-    let r = record_of s t in
-    asked_clear (upgrade k t) (pass_refusal s Reading k t) (asked (upgrade_refusal r) (line t (upgrading r))) (clear_pass s Reading k t opened low high number out)
-    (asked_clear (upgrade k t) (upgrade_refusal r) (line t (upgrading r)) (ap (λ b. ask b Upgrades None) (lt-ltb r.account.u 1000 few)) tt)
-judged_clear (downgrade k t) s opened (low, high, (number, out)) =
-    asked_clear (downgrade k t) (pass_refusal s Writing k t) (line t (downgrading (record_of s t))) (clear_pass s Writing k t opened low high number out) tt
-judged_clear (leave w k t) s opened (low, high, (number, out)) =
-    asked_clear (leave w k t) (pass_refusal s w k t) (line t (leaving (record_of s t))) (clear_pass s w k t opened low high number out) tt
-judged_clear (read w k t row) s opened (low, high, ((number, out), there)) =
-    let v = at_once (row_answer (get_or s.table row 0)) s in
-    asked_clear (read w k t row) (pass_refusal s w k t) (asked (row_refusal row (length s.table)) v) (clear_pass s w k t opened low high number out)
-    (asked_clear (read w k t row) (row_refusal row (length s.table)) v (clear_row row (length s.table) there) (λ e h. damage_alone (get_or s.table row 0) e h))
-judged_clear (put k t row n) s opened (low, high, ((number, out), there, some, few)) =
-    let v = at_once done (with_row s row n) in
-    asked_clear (put k t row n) (pass_refusal s Writing k t) (asked (row_refusal row (length s.table)) (asked (thickness_refusal n) v)) (clear_pass s Writing k t opened low high number out)
-    (asked_clear (put k t row n) (row_refusal row (length s.table)) (asked (thickness_refusal n) v) (clear_row row (length s.table) there)
-    (asked_clear (put k t row n) (thickness_refusal n) v (clear_thickness n some few) (λ e h. done_no e h)))
-
-obeyed_clear : (c : Call) (v : Verdict) (s z : State) (a : Answer) → Obeyed v s a z → Clear c v → (e : Refusal) → a ≡ no e → IsDamage c e
-obeyed_clear c (refuse f) s z a x h e k = absurd h
-obeyed_clear c (line t r) s z a (x, y) h e k = absurd (done_no e (sym x ∙ k))
-obeyed_clear c (at_once b w) s z a (x, y) h e k = h e (sym x ∙ k)
+use Rattle.lock.proofs.Runs.{Able, call_able, call_kept, no_right_beside, none_of, run_able}
+use Rattle.lock.proofs.Granted.{same_itself, takes, may_begin, may_advance, in_rows, is_thickness, shown, NeedsIn, clear_pass, clear_row, told_row, judged_clear, obeyed_clear}
+use Rattle.lock.proofs.Recorded.{told, says_of, arrived_told, cond_same, quiet_finishes, Away, moves, none_some, begins, away_unfinished, rests_before, on_line_away, right_away}
 
 -- What a verdict says of the call that it is of.
 
@@ -286,7 +46,7 @@ record LineSays (c : Call) (s : State) (u : ℕ) (r : Record) : Type 0 where
   away : Away r.track.place
   says : told r ≡ obeyed_in (told (record_of s u)) c
   ends : (f : Found) (share : ℕ) → Finishes (record_of s u) (settled r f share)
-  costs : (share : ℕ) → min (r.account.cost + share) 4294967295 ≡ cost_in (record_of s u).account.cost share c
+  costs : (share : ℕ) → min (r.account.cost + share) 4294967295 ≡ cost_after (record_of s u).account.cost share c
   needs : NeedsIn s c
   answers : AnswersSo s.number c done
 
@@ -295,7 +55,7 @@ record AnswerSays (c : Call) (s : State) (a : Answer) (z : State) : Type 0 where
   number : z.number ≡ s.number
   rows : length z.table ≡ length s.table
   says : (t : ℕ) → 1 ≤ t → told (record_of z t) ≡ made_in t (told (record_of s t)) (record { call = c; answer = a })
-  still : (cost share : ℕ) → cost_in cost share c ≡ cost
+  still : (cost share : ℕ) → cost_after cost share c ≡ cost
   needs : NeedsIn s c
   answers : was_obeyed a ≡ true → AnswersSo s.number c a
 
@@ -444,20 +204,12 @@ left c (at_once b w) s z a (x, y) h k =
       answers = λ o. subst (AnswersSo s.number c) (sym x) (k.answers (sym (ap was_obeyed x) ∙ o));
     }
 
-none_of : (o : Option Right) → ((v : Right) → o ≡ Some v → ⊥) → o ≡ None
-none_of None f = refl
-none_of (Some v) f = absurd (f v refl)
-
-inside_section : (p : Place) (o : Role) (s : Standing) (w : Right) → right_at p o s ≡ Some w → section_at p ≡ true
-inside_section p o s w h = grind arith
-
 -- a pass that is out is for the right that its task has
 fits_right : (z : State) (t : ℕ) (w : Right) → Lawful z → (record_of z t).out ≡ Some w → HasRight z t w
 fits_right z t w g e = let r = record_of z t in has_out (right_of r.track) r.out w (parts r (g.ordered (t - 1))).pass (ap (λ o. out_for o w) e ∙ same_itself w)
 
 none_beside : (z : State) (t u : ℕ) → Lawful z → 1 ≤ t → 1 ≤ u → t ≢ u → HasRight z t Writing → (record_of z u).out ≡ None
-none_beside z t u g low low' n w =
-    none_of (record_of z u).out (λ v e. let k = (record_of z u).track in false≢true (sym (excluded z t u g low low' n w) ∙ inside_section k.place k.role k.standing v (fits_right z u v g e)))
+none_beside z t u g low low' n w = none_of (record_of z u).out (λ v e. none_some v (sym (no_right_beside z t u g low low' n w) ∙ fits_right z u v g e))
 
 -- what stays over a run
 record Frame (s z : State) : Type 0 where
@@ -481,10 +233,6 @@ module _ {M : Type 0} (does : Doing M) (limit : ℕ) where
       let first = call_left e.call s y m k e.answer g call in
       record { number = rest.number ∙ first.number; tasks = rest.tasks ∙ (call_same does limit s y m k e.call e.answer call).count; rows = rest.rows ∙ first.rows }
 
-  -- an account moves as the places of its task say
-  pub attempts : (c : Call) (s z : State) (m n : M) (a : Answer) → Able limit s → Calls does limit c s m a z n → (t : ℕ) → 1 ≤ t → Finishes (record_of s t) (record_of z t)
-  attempts c s z m n a g h t low = (call_left c s z m n a g h).ends t low
-
   deed_tells : (d : Deed) (m n : M) (t share : ℕ) → Shares does m t d share n → TellsShare does m t share n
   deed_tells (Touch op) m n t share h = inl (op, h)
   deed_tells Join m n t share h = inr h
@@ -497,13 +245,13 @@ module _ {M : Type 0} (does : Doing M) (limit : ℕ) where
   arrived_cost Inside a = refl
   arrived_cost (Next l) a = refl
 
-  abbrev Charged : Call → State → M → Answer → State → M → Type 0
-  Charged c s m a z n = (share : ℕ) × TellsShare does m (task_of c) share n × ((t : ℕ) → 1 ≤ t → (record_of z t).account.cost ≡ cost_made t (record_of s t).account.cost share (record { call = c; answer = a }))
+  abbrev Costs : Call → State → M → Answer → State → M → Type 0
+  Costs c s m a z n = (share : ℕ) × TellsShare does m (task_of c) share n × ((t : ℕ) → 1 ≤ t → (record_of z t).account.cost ≡ cost_made t (record_of s t).account.cost share (record { call = c; answer = a }))
 
-  carried_charged : (c : Call) (v : Verdict) (s z : State) (m n : M) (a : Answer) → Able limit s → Meant s v → Says c s v → Carried does limit v s m a z n → Charged c s m a z n
-  carried_charged c (refuse e) s z m n a g h k (share, shares, x, y) =
+  carried_costs : (c : Call) (v : Verdict) (s z : State) (m n : M) (a : Answer) → Able limit s → Meant s v → Says c s v → Carried does limit v s m a z n → Costs c s m a z n
+  carried_costs c (refuse e) s z m n a g h k (share, shares, x, y) =
       (share, inr shares, λ t low. ap (λ w. (record_of w t).account.cost) y ∙ ap (λ b. cost_made t (record_of s t).account.cost share (record { call = c; answer = b })) (sym x))
-  carried_charged c (line u r) s z m n a g h k (share, shares, x, y) =
+  carried_costs c (line u r) s z m n a g h k (share, shares, x, y) =
       let d = next_deed u r.track in
       let none = allowed limit s u r g.lawful g.fits g.two h in
       let answer : a ≡ done = subst (λ o. a ≡ (lined o u r d share s).0) none x in
@@ -511,14 +259,14 @@ module _ {M : Type 0} (does : Doing M) (limit : ℕ) where
       let tells : TellsShare does m u share n = deed_tells d m n u share (subst (λ o. LineShares does o m u d share n) none shares) in
       let f = finds d u s.cells s.waiting in
       let q = settled r f share in
-      let cost : q.account.cost ≡ cost_in (record_of s u).account.cost share c = arrived_cost q.track.place (charged r.account share) ∙ k.costs share in (
+      let cost : q.account.cost ≡ cost_after (record_of s u).account.cost share c = arrived_cost q.track.place (charged r.account share) ∙ k.costs share in (
         share,
         subst (λ j. TellsShare does m j share n) k.is tells,
         λ t low.
-            ap (λ w. (record_of w t).account.cost) left ∙ replaced_by (λ (x : Record). x.account.cost) (λ n. cost_in n share c) s.records t u q low h.low h.high cost
-            ∙ ap (λ x. cond (eqb x t) (cost_in (record_of s t).account.cost share c) (record_of s t).account.cost) k.is ∙ ap (λ b. cost_made t (record_of s t).account.cost share (record { call = c; answer = b })) (sym answer),
+            ap (λ w. (record_of w t).account.cost) left ∙ replaced_by (λ (x : Record). x.account.cost) (λ n. cost_after n share c) s.records t u q low h.low h.high cost
+            ∙ ap (λ x. cond (eqb x t) (cost_after (record_of s t).account.cost share c) (record_of s t).account.cost) k.is ∙ ap (λ b. cost_made t (record_of s t).account.cost share (record { call = c; answer = b })) (sym answer),
       )
-  carried_charged c (at_once b w) s z m n a g h k (share, shares, x, y) = (
+  carried_costs c (at_once b w) s z m n a g h k (share, shares, x, y) = (
     share,
     inr shares,
     λ t low.
@@ -527,8 +275,12 @@ module _ {M : Type 0} (does : Doing M) (limit : ℕ) where
         ap (λ w. (record_of w t).account.cost) y ∙ ap (λ (x : Account). x.cost) (h.accounts (t - 1)) ∙ cond_same test cost ∙ ap (λ n. cond test n cost) (sym (k.still cost share)),
   )
 
-  pub charges : (c : Call) (s z : State) (m n : M) (a : Answer) → Able limit s → Calls does limit c s m a z n → Charged c s m a z n
-  charges c s z m n a g h = carried_charged c (judge c s) s z m n a g (meant c s g.lawful) (judged_says c s g.lawful) h
+  -- a call costs its task the share that was told, and accounts move as the places of tasks say
+  pub charged_account : (c : Call) (s z : State) (m n : M) (a : Answer) → Able limit s → Calls does limit c s m a z n →
+      (share : ℕ) × TellsShare does m (task_of c) share n × ((t : ℕ) → 1 ≤ t → Charges t share (record { call = c; answer = a }) (record_of s t) (record_of z t))
+  charged_account c s z m n a g h =
+      let (share, tells, cost) = carried_costs c (judge c s) s z m n a g (meant c s g.lawful) (judged_says c s g.lawful) h in
+      (share, tells, λ t low. (cost t low, (call_left c s z m n a g h).ends t low))
 
   -- A run from a state whose records have no history yet.
   module _ (s : State) (first : (t : ℕ) → told (record_of s t) ≡ nothing_yet) (able : Able limit s) (P : State → Type 0) (es : List Made) (z : State) (m n : M) (run : RunWhile does limit P es s m z n) where
@@ -559,22 +311,29 @@ module _ {M : Type 0} (does : Doing M) (limit : ℕ) where
         (subst (λ x. Needs s.number (length s.records) x (told (record_of z (task_of c))) k c) (sym f.rows)
         (subst (λ x. Needs s.number (length s.records) (length s.table) x k c) (sym (told_by_run (task_of c) h.0)) h)))
 
-    pub granted : (c : Call) (a : Answer) (y : State) (p : M) → Calls does limit c z n a y p → (was_obeyed a ≡ true → NeedsBy c) × (NeedsBy c → (e : Refusal) → a ≡ no e → IsDamage c e)
-    granted c a y p call = (
-      (λ o. by_run c ((call_left c z y n p a now call).needs o)),
-      (λ h e k. obeyed_clear c (judge c z) z y a (call_kept does limit c z y n p a now call).obeyed (judged_clear c z now.lawful.opened (in_state c h)) e k),
-    )
-
-    pub answers : (c : Call) (a : Answer) (y : State) (p : M) → Calls does limit c z n a y p → was_obeyed a ≡ true → AnswersSo s.number c a
+    answers : (c : Call) (a : Answer) (y : State) (p : M) → Calls does limit c z n a y p → was_obeyed a ≡ true → AnswersSo s.number c a
     answers c a y p call o = subst (λ x. AnswersSo x c a) (run_frame P es s z m n able run).number ((call_left c z y n p a now call).answers o)
 
+    pub granted : (c : Call) (a : Answer) (y : State) (p : M) → Calls does limit c z n a y p → (was_obeyed a ≡ true → NeedsBy c × AnswersSo s.number c a) × (NeedsBy c → (was_obeyed a ≡ true) ⊎ IsDamaged c a)
+    granted c a y p call = (
+      (λ o. (by_run c ((call_left c z y n p a now call).needs o), answers c a y p call o)),
+      (λ h. obeyed_clear c (judge c z) z y a (call_kept does limit c z y n p a now call).obeyed (judged_clear c z now.lawful.opened (in_state c h))),
+    )
+
+    -- a read that has what it needs meets none of its questions
     pub may_read : (w : Right) (k t row : ℕ) → NeedsBy (read w k t row) → MayRead z w k t row
     may_read w k t row h =
         let (low, high, ((number, out), there)) = in_state (read w k t row) h in
         (clear_pass z w k t now.lawful.opened low high number out, clear_row row (length z.table) there)
 
-    pub exclusive : (t : ℕ) → 1 ≤ t → (w : Right) → (history t es).out ≡ Some w → HasRight z t w × (w ≡ Writing → (u : ℕ) → 1 ≤ u → t ≢ u → (history u es).out ≡ None)
-    exclusive t low w e =
-        let out = λ (u : ℕ) (low : 1 ≤ u). ap (λ (x : History). x.out) (told_by_run u low) in
-        let has = fits_right z t w now.lawful (out t low ∙ e) in
-        (has, λ is u low' apart. sym (out u low') ∙ none_beside z t u now.lawful low low' apart (subst (HasRight z t) is has))
+    pub passes : (t : ℕ) → 1 ≤ t → ((record_of z t).out ≡ (history t es).out) × ((w : Right) → (history t es).out ≡ Some w → HasRight z t w × (w ≡ Writing → (u : ℕ) → 1 ≤ u → t ≢ u → (history u es).out ≡ None))
+    passes t low =
+        let out = λ (u : ℕ) (low : 1 ≤ u). ap (λ (x : History). x.out) (told_by_run u low) in (
+          out t low,
+          λ w e.
+              let has = fits_right z t w now.lawful (out t low ∙ e) in
+              (has, λ is u low' apart. sym (out u low') ∙ none_beside z t u now.lawful low low' apart (subst (HasRight z t) is has)),
+        )
+
+    pub counts : (t : ℕ) → 1 ≤ t → Counts (history t es) (record_of z t)
+    counts t low = let k = told_by_run t low in (ap (λ (h : History). h.upgrades) k, ap (λ (h : History). h.downgrades) k, ap (λ (h : History). h.begins) k)

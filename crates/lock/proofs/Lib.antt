@@ -12,6 +12,8 @@ pub mod Runs
 pub mod SoundRuns
 pub mod RowRuns
 pub mod Decided
+pub mod Recorded
+pub mod Granted
 pub mod Histories
 pub mod Measured
 pub mod Promised

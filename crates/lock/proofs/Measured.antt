@@ -1,9 +1,10 @@
 -- What a read answers by the number in its row.
-use Rattle.std.proofs.Common.{◌≡◌, ℕ, ◌<◌, ◌≤◌, false, eqb, leb, Some, None, refl, ◌∙◌, inl, inr, arith}
+use Rattle.std.proofs.Common.{◌≡◌, ℕ, ◌<◌, ◌≤◌, false, eqb, leb, Some, None, sym, refl, ◌∙◌, subst, inl, inr, arith}
 use Rattle.std.proofs.lemmas.Bool.{cases_Bool, eqb-true, leb-true}
 use Rattle.calls.specs.declared.refusal.Refusal.TheVariants.{Stored}
 use Rattle.calls.specs.Steps.{Answer, gives, no, row_answer}
-use Rattle.lock.specs.History.{Reads}
+use Rattle.lock.specs.Needs.{IsRefused}
+use Rattle.lock.specs.Rows.{Reads}
 
 at_zero : (a : Answer) (n : ℕ) → a ≡ gives None → n ≡ 0 → Reads n a
 at_zero a n e z =
@@ -11,7 +12,7 @@ at_zero a n e z =
       thickness = λ v h. absurd (let k : ◌≡◌ {A = ℕ} 0 1 = cc in omega arith);
       measured = λ low high. absurd (omega arith);
       unmeasured = (λ h. z, λ h. e);
-      damaged = (λ h. absurd (let k : ◌≡◌ {A = ℕ} 0 1 = cc in omega arith), λ h. absurd (omega arith));
+      damaged = (λ h. absurd (subst (λ x. IsRefused x 32) e h), λ h. absurd (omega arith));
     }
 
 within : (a : Answer) (n : ℕ) → a ≡ gives (Some n) → 1 ≤ n → n ≤ 1000000 → Reads n a
@@ -20,7 +21,7 @@ within a n e low high =
       thickness = λ v h. let k : v ≡ n = cc in (omega arith, omega arith, k);
       measured = λ x y. e;
       unmeasured = (λ h. absurd (let k : ◌≡◌ {A = ℕ} 0 1 = cc in omega arith), λ h. absurd (omega arith));
-      damaged = (λ h. absurd (let k : ◌≡◌ {A = ℕ} 0 1 = cc in omega arith), λ h. absurd (omega arith));
+      damaged = (λ h. absurd (subst (λ x. IsRefused x 32) e h), λ h. absurd (omega arith));
     }
 
 above : (a : Answer) (n : ℕ) → a ≡ no Stored → 1000000 < n → Reads n a
@@ -29,7 +30,7 @@ above a n e high =
       thickness = λ v h. absurd (let k : ◌≡◌ {A = ℕ} 0 1 = cc in omega arith);
       measured = λ x y. absurd (omega arith);
       unmeasured = (λ h. absurd (let k : ◌≡◌ {A = ℕ} 0 1 = cc in omega arith), λ h. absurd (omega arith));
-      damaged = (λ h. high, λ h. e);
+      damaged = (λ h. high, λ h. subst (λ x. IsRefused x 32) (sym e) refl);
     }
 
 pub reads : (a : Answer) (n : ℕ) → a ≡ row_answer n → Reads n a

@@ -15,18 +15,20 @@ use Rattle.calls.specs.States.{State, record_of}
 use Rattle.calls.specs.Steps.{row_answer}
 use Rattle.calls.proofs.Obeyed.{yes}
 use Rattle.calls.proofs.Sound.{fresh_in_order}
-use Rattle.lock.specs.History.{History, nothing_yet}
+use Rattle.lock.specs.History.{nothing_yet}
 use Rattle.lock.specs.Model.{model_run, unpaid, unpaid_record}
 use Rattle.lock.specs.Promises.{Promised, Starts}
+use Rattle.lock.specs.Runs.{Made, Run}
 use Rattle.lock.proofs.Decided.{decided}
 use Rattle.lock.proofs.Facts.{OneTask, TwoTasks, seen, seen_cells}
-use Rattle.lock.proofs.Histories.{answers, attempts, charges, exclusive, granted, may_read, told, told_by_run}
+use Rattle.lock.proofs.Histories.{charged_account, counts, granted, may_read, passes}
 use Rattle.lock.proofs.Holds.{Holds, at}
 use Rattle.lock.proofs.Judged.{Lawful, pass_there}
 use Rattle.lock.proofs.Measured.{reads}
-use Rattle.lock.proofs.RowRuns.{read_told, run_row, table_still}
-use Rattle.lock.proofs.Runs.{Able, call_kept, excluded, run_able}
-use Rattle.lock.proofs.SoundRuns.{unbroken}
+use Rattle.lock.proofs.RowRuns.{of_row, read_told, run_row, table_still}
+use Rattle.lock.proofs.Recorded.{told}
+use Rattle.lock.proofs.Runs.{Able, call_kept, excluded, no_right_beside, run_able, section_with_right}
+use Rattle.lock.proofs.SoundRuns.{sound, unbroken}
 
 pub first_record : (roles : List ℕ) (i : ℕ) → (o : Role) × (at (map enlisted roles) i ≡ fresh o)
 first_record [] i = (Reader, refl)
@@ -39,31 +41,28 @@ no_history s roles starts t = let (o, is) = first_record roles (t - 1) in ap (λ
 module _ {M : Type 0} (does : Doing M) (limit : ℕ) (s : State) (m : M) (roles : List ℕ) where
   pub promised : Starts roles s → unpaid s ≡ s → Able limit s → Promised does limit s m roles
   promised starts free g =
+      let able = λ (es : List Made) (z : State) (n : M) (run : Run does limit es s m z n). run_able does limit _ es s z m n g run in
+      let first = no_history s roles starts in
       record {
         starts = starts;
-        exclusion = λ es z n run t u low low' ne w. excluded z t u (run_able does limit _ es s z m n g run).lawful low low' ne w;
-        latest_rows = λ es z n run w k t row a y p may call. (read_told does limit z y n p w k t row a may call).0 ∙ ap row_answer (run_row does limit _ row es s z m n run);
-        steady_rows = λ es z n run w k t row a z' n' may call ds y p during v j b y' p' may' call'.
-            let g1 = run_able does limit _ es s z m n g run in
-            let low = (pass_there z w k t g1.lawful may.0).low in
-            let first = read_told does limit z z' n n' w k t row a may call in
-            let second = read_told does limit y y' p p' v j t row b may' call' in
-            let still = table_still does limit t ds z' y n' p (subst (Able limit) (sym first.1) g1) low during in
-            second.0 ∙ ap (λ xs. row_answer (get_or xs row 0)) (still ∙ ap (λ (x : State). x.table) first.1) ∙ sym first.0;
-        obedience = λ es z n run c a y p call. let k = call_kept does limit c z y n p a (run_able does limit _ es s z m n g run) call in (k.own, k.obeyed);
-        soundness = λ es z n run. unbroken z (run_able does limit _ es s z m n g run).lawful;
-        lines_decide = λ es z n run. decided does limit _ es s z m n g run ∙ ap (model_run es) free;
-        granted_calls = λ es z n run c a y p call. granted does limit s (no_history s roles starts) g _ es z m n run c a y p call;
-        fitting_answers = λ es z n run c a y p call o. answers does limit s (no_history s roles starts) g _ es z m n run c a y p call o;
+        exclusion = λ es z n run. (section_with_right z, λ t u low low' apart w. let k = (able es z n run).lawful in (excluded z t u k low low' apart w, no_right_beside z t u k low low' apart w));
         measured_rows = λ es z n run w k t row a y p needs call.
-            let may = may_read does limit s (no_history s roles starts) g _ es z m n run w k t row needs in
+            let may = may_read does limit s first g _ es z m n run w k t row needs in
             reads a _ ((read_told does limit z y n p w k t row a may call).0 ∙ ap row_answer (run_row does limit _ row es s z m n run));
-        passes = λ es z n run t low. ap (λ (h : History). h.out) (told_by_run does limit s (no_history s roles starts) g _ es z m n run t low);
-        exclusive_passes = λ es z n run t low w e. exclusive does limit s (no_history s roles starts) g _ es z m n run t low w e;
-        counted_changes = λ es z n run t low. let k = told_by_run does limit s (no_history s roles starts) g _ es z m n run t low in (ap (λ (h : History). h.upgrades) k, ap (λ (h : History). h.downgrades) k);
-        counted_attempts = λ es z n run t low. ap (λ (h : History). h.begins) (told_by_run does limit s (no_history s roles starts) g _ es z m n run t low);
-        finished_attempts = λ es z n run c a y p call t low. attempts does limit c z y n p a (run_able does limit _ es s z m n g run) call t low;
-        charges = λ es z n run c a y p call. charges does limit c z y n p a (run_able does limit _ es s z m n g run) call;
+        steady_rows = λ es z n run w k t row a z' n' call of ds y p during v j b y' p' call' of'.
+            let g1 = able es z n run in
+            let may = of_row does limit z z' n n' w k t row a call of in
+            let first = read_told does limit z z' n n' w k t row a may call in
+            let second = read_told does limit y y' p p' v j t row b (of_row does limit y y' p p' v j t row b call' of') call' in
+            let still = table_still does limit t ds z' y n' p (subst (Able limit) (sym first.1) g1) (pass_there z w k t g1.lawful may.0).low during in
+            second.0 ∙ ap (λ xs. row_answer (get_or xs row 0)) (still ∙ ap (λ (x : State). x.table) first.1) ∙ sym first.0;
+        granted_calls = λ es z n run c a y p call. granted does limit s first g _ es z m n run c a y p call;
+        passes = λ es z n run t low. passes does limit s first g _ es z m n run t low;
+        counted_accounts = λ es z n run t low. counts does limit s first g _ es z m n run t low;
+        charged_accounts = λ es z n run c a y p call. charged_account does limit c z y n p a (able es z n run) call;
+        obedience = λ es z n run c a y p call. let k = call_kept does limit c z y n p a (able es z n run) call in (k.own, k.obeyed);
+        soundness = λ es z n run. let k = (able es z n run).lawful in (sound z k, (None, unbroken z k, refl));
+        lines_decide = λ es z n run. decided does limit _ es s z m n g run ∙ ap (model_run es) free;
       }
 
 -- The state of a lock just opened.

@@ -1,30 +1,27 @@
 -- What runs leave in the rows: a row holds the number last put into it, and stands still while a task keeps its reading right.
-use Rattle.std.proofs.Common.{◌≡◌, ℕ, ◌<◌, ◌≤◌, true, ltb, List, [], ◌∷◌, length, get_or, set, Some, None, Option, sym, refl, ap, ◌∙◌, subst, inl, inr, arith}
+use Rattle.std.proofs.Common.{◌≡◌, ℕ, ◌<◌, ◌≤◌, Bool, true, false, eqb, ltb, ◌≢◌, List, [], ◌∷◌, length, get_or, set, Some, None, Option, sym, refl, ap, ◌∙◌, subst, inl, inr, arith}
 use Rattle.std.proofs.lemmas.Bool.{cases_eq, eq-eqb, false≢true, ltb-true, ne_eqb}
 use Rattle.std.proofs.lemmas.List.{get_or-set_same, get_or-set_other}
 use Rattle.memory.specs.Calls.{Doing}
 use Rattle.lines.specs.declared.deed.Deed.{Deed}
-use Rattle.lines.specs.declared.place.Place.{Place}
 use Rattle.lines.specs.declared.place.Right.{Right}
 use Rattle.lines.specs.declared.place.Right.TheVariants.{Reading, Writing}
-use Rattle.lines.specs.declared.place.Role.{Role}
-use Rattle.lines.specs.declared.place.Standing.{Standing}
-use Rattle.lines.specs.Classes.{section_at}
 use Rattle.lines.specs.Lines.{next_deed}
-use Rattle.lines.specs.Rights.{right_at, right_of}
+use Rattle.lines.specs.Rights.{right_of}
 use Rattle.calls.specs.declared.record.Record.{Record}
 use Rattle.calls.specs.declared.refusal.Refusal.{Refusal}
-use Rattle.calls.specs.declared.refusal.Refusal.TheVariants.{NoRow}
-use Rattle.calls.specs.Questions.{advance_refusal, begin_refusal, pass_refusal, row_refusal, take_refusal, task_refusal, thickness_refusal, upgrade_refusal}
+use Rattle.calls.specs.declared.refusal.Refusal.TheVariants.{NoPass, NoRow, OtherLock, Shut}
+use Rattle.calls.specs.Questions.{advance_refusal, ask, begin_refusal, is_out, pass_refusal, row_refusal, take_refusal, task_refusal, thickness_refusal, upgrade_refusal}
+use Rattle.calls.specs.Refusals.{refusal_number}
 use Rattle.calls.specs.Records.{begun, downgrading, leaving, upgrading, with_out}
 use Rattle.calls.specs.States.{State, record_of, with_record, with_row}
 use Rattle.calls.specs.Steps.{Answer, Call, Calls, Carried, Verdict, advance, asked, at_once, begin, deed_refusal, done, downgrade, hands, judge, lay_back, leave, line, lined, no, put, read, refuse, row_answer, take, upgrade}
 use Rattle.calls.proofs.Obeyed.{yes}
-use Rattle.lock.specs.Promises.{HasRight, MayRead}
-use Rattle.lock.specs.Rows.{last_put, left_in}
+use Rattle.lock.specs.Promises.{HasRight}
+use Rattle.lock.specs.Rows.{IsOfRow, last_put, left_in}
 use Rattle.lock.specs.Runs.{Made, RunWhile}
 use Rattle.lock.proofs.Judged.{Lawful, pass_there}
-use Rattle.lock.proofs.Runs.{Able, call_able, excluded}
+use Rattle.lock.proofs.Runs.{Able, call_able, excluded, section_with_right}
 
 -- What a verdict may do to a row that holds v, in a call c.
 
@@ -45,7 +42,7 @@ refused_leaves row (upgrade k t) e v = refl
 refused_leaves row (downgrade k t) e v = refl
 refused_leaves row (leave w k t) e v = refl
 refused_leaves row (read w k t r) e v = refl
-refused_leaves row (put k t r n) e v = elim (cases_eq r row) [ inl is ↦ rw (eq-eqb r row is) refl | inr other ↦ rw (ne_eqb r row other) refl ]
+refused_leaves row (put k t r n) e v = refl
 
 asked_leaves : (row : ℕ) (c : Call) (s : State) (o : Option Refusal) (v : Verdict) → (o ≡ None → Leaves row c s v) → Leaves row c s (asked o v)
 asked_leaves row c s None v f = f refl
@@ -77,6 +74,28 @@ lined_leaves : (o : Option Refusal) (t : ℕ) (r : Record) (d : Deed) (share : �
 lined_leaves None t r d share s = refl
 lined_leaves (Some e) t r d share s = refl
 
+-- a read of the row with this pass meets none of its questions
+abbrev pub MayRead : State → Right → ℕ → ℕ → ℕ → Type 0
+MayRead z w k t row = (pass_refusal z w k t ≡ None) × (row_refusal row (length z.table) ≡ None)
+
+-- no question before the row answers refuses 32
+
+abbrev NotOfRow : Option Refusal → Type 0
+NotOfRow None = Unit {0}
+NotOfRow (Some e) = refusal_number e ≢ 32
+
+ask_not_of_row : (b : Bool) (e : Refusal) (o : Option Refusal) → refusal_number e ≢ 32 → NotOfRow o → NotOfRow (ask b e o)
+ask_not_of_row true e o h k = k
+ask_not_of_row false e o h k = h
+
+pass_not_of_row : (s : State) (w : Right) (k t : ℕ) → NotOfRow (pass_refusal s w k t)
+pass_not_of_row s w k t =
+    let third = ask (is_out s w t) NoPass None in
+    ask_not_of_row s.opened Shut (ask (eqb k s.number) OtherLock third) (λ h. omega (arith, h)) (ask_not_of_row (eqb k s.number) OtherLock third (λ h. omega (arith, h)) (ask_not_of_row (is_out s w t) NoPass None (λ h. omega (arith, h)) tt))
+
+row_not_of_row : (row rows : ℕ) → NotOfRow (row_refusal row rows)
+row_not_of_row row rows = ask_not_of_row (ltb row rows) NoRow None (λ h. omega (arith, h)) tt
+
 module _ {M : Type 0} (does : Doing M) (limit : ℕ) where
   carried_row : (row : ℕ) (c : Call) (v : Verdict) (s z : State) (m n : M) (a : Answer) → Leaves row c s v → Carried does limit v s m a z n → RowOf row z ≡ left_in row c a (RowOf row s)
   carried_row row c (refuse e) s z m n a h (share, told, x, y) = rw (x, y) (sym h)
@@ -92,7 +111,6 @@ module _ {M : Type 0} (does : Doing M) (limit : ℕ) where
   run_row P row [] s z m n (p, same, k) = ap (RowOf row) same
   run_row P row (e ∷ es) s z m n (p, (y, k, call, run)) = run_row P row es y z k n run ∙ ap (last_put row es) (call_row row e.call s y m k e.answer call)
 
-  -- a read that meets none of its questions
   pub read_told : (s z : State) (m n : M) (w : Right) (k t row : ℕ) (a : Answer) → MayRead s w k t row → Calls does limit (read w k t row) s m a z n → (a ≡ row_answer (RowOf row s)) × (z ≡ s)
   read_told s z m n w k t row a may h =
       let v = at_once (row_answer (RowOf row s)) s in
@@ -100,19 +118,29 @@ module _ {M : Type 0} (does : Doing M) (limit : ℕ) where
       subst (λ o. Carried does limit (asked None (asked o v)) s m a z n) may.1 (subst (λ o. Carried does limit (asked o (asked (row_refusal row (length s.table)) v)) s m a z n) may.0 h) in
       (q.2, q.3)
 
+  -- questions were asked before v, and the answer is of the row: none of them was answered no
+  asked_of_row : (o : Option Refusal) (v : Verdict) (s z : State) (m n : M) (a : Answer) → NotOfRow o → Carried does limit (asked o v) s m a z n → IsOfRow a → (o ≡ None) × Carried does limit v s m a z n
+  asked_of_row None v s z m n a h c of = (refl, c)
+  asked_of_row (Some e) v s z m n a h (share, told, x, y) of = absurd (h (subst IsOfRow x of))
+
+  -- a read that the row answers meets none of its questions
+  pub of_row : (s z : State) (m n : M) (w : Right) (k t row : ℕ) (a : Answer) → Calls does limit (read w k t row) s m a z n → IsOfRow a → MayRead s w k t row
+  of_row s z m n w k t row a h of =
+      let v = at_once (row_answer (RowOf row s)) s in
+      let there = row_refusal row (length s.table) in
+      let first = asked_of_row (pass_refusal s w k t) (asked there v) s z m n a (pass_not_of_row s w k t) h of in
+      (first.0, (asked_of_row there v s z m n a (row_not_of_row row (length s.table)) first.1 of).0)
+
 -- Nothing is put while a task has the reading right.
 
 both_rights : (z : State) (t : ℕ) → HasRight z t Reading → HasRight z t Writing → ⊥
 both_rights z t r w = let e : ◌≡◌ {A = Option Right} (Some Reading) (Some Writing) = sym r ∙ w in grind arith
 
-inside_section : (p : Place) (o : Role) (s : Standing) (w : Right) → right_at p o s ≡ Some w → section_at p ≡ true
-inside_section p o s w h = grind arith
-
 no_writer : (z : State) (t u : ℕ) → Lawful z → 1 ≤ t → 1 ≤ u → HasRight z t Reading → HasRight z u Writing → ⊥
 no_writer z t u g low low' r w =
     elim (cases_eq u t) [
       | inl is ↦ both_rights z t r (subst (λ x. HasRight z x Writing) is w)
-      | inr other ↦ let k = (record_of z t).track in false≢true (sym (excluded z u t g low' low other w) ∙ inside_section k.place k.role k.standing Reading r)
+      | inr other ↦ false≢true (sym (excluded z u t g low' low other w) ∙ section_with_right z t Reading r)
     ]
 
 abbrev Still : State → Verdict → Type 0

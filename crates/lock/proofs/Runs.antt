@@ -1,9 +1,15 @@
 -- After any run from an opened lock the facts hold: exclusion, obedience and soundness.
-use Rattle.std.proofs.Common.{◌≡◌, ℕ, ◌-◌, ◌≤◌, Bool, true, false, cond, ◌≢◌, List, [], ◌∷◌, length, sym, refl, ap, subst, arith}
+use Rattle.std.proofs.Common.{◌≡◌, ℕ, ◌-◌, ◌≤◌, Bool, true, false, cond, ◌≢◌, List, [], ◌∷◌, length, Some, None, Option, sym, ◌∙◌, refl, ap, subst, arith}
+use Rattle.std.proofs.lemmas.Bool.{false≢true}
 use Rattle.memory.specs.Calls.{Doing}
+use Rattle.lines.specs.declared.place.Place.{Place}
+use Rattle.lines.specs.declared.place.Right.{Right}
 use Rattle.lines.specs.declared.place.Right.TheVariants.{Writing}
-use Rattle.lines.specs.Classes.{has_upgraded, in_section, is_counted, is_upgrading, is_writing_normally, may_write}
+use Rattle.lines.specs.declared.place.Role.{Role}
+use Rattle.lines.specs.declared.place.Standing.{Standing}
+use Rattle.lines.specs.Classes.{has_upgraded, in_section, is_counted, is_upgrading, is_writing_normally, may_write, section_at}
 use Rattle.lines.specs.Lines.{next_deed}
+use Rattle.lines.specs.Rights.{right_at, right_of}
 use Rattle.calls.specs.States.{State, record_of}
 use Rattle.calls.specs.Steps.{Answer, Call, Calls, Carried, Verdict, after_deed, at_once, done, judge, line, lined, refuse}
 use Rattle.calls.proofs.Obeyed.{call_same}
@@ -66,3 +72,17 @@ apart s i j g n e = no_one _ (alone _ _ _ (g.holds.one i) (g.holds.one j) (g.hol
 
 pub excluded : (z : State) (t u : ℕ) → Lawful z → 1 ≤ t → 1 ≤ u → t ≢ u → HasRight z t Writing → in_section (record_of z u).track ≡ false
 excluded z t u g low low' n w = apart z (t - 1) (u - 1) g (omega arith) (ap (λ x. Rattle.lines.specs.Classes.is_writing x) w)
+
+inside_section : (p : Place) (o : Role) (s : Standing) (w : Right) → right_at p o s ≡ Some w → section_at p ≡ true
+inside_section p o s w h = grind arith
+
+-- a task that has a right is in the section
+pub section_with_right : (z : State) (t : ℕ) (w : Right) → HasRight z t w → in_section (record_of z t).track ≡ true
+section_with_right z t w h = let k = (record_of z t).track in inside_section k.place k.role k.standing w h
+
+pub none_of : {A : Type 0} (o : Option A) → ((v : A) → o ≡ Some v → ⊥) → o ≡ None
+none_of None f = refl
+none_of (Some v) f = absurd (f v refl)
+
+pub no_right_beside : (z : State) (t u : ℕ) → Lawful z → 1 ≤ t → 1 ≤ u → t ≢ u → HasRight z t Writing → right_of (record_of z u).track ≡ None
+no_right_beside z t u g low low' n w = none_of (right_of (record_of z u).track) (λ v e. false≢true (sym (excluded z t u g low low' n w) ∙ section_with_right z u v e))

@@ -45,7 +45,7 @@ module _ (s : State) (g : Lawful s) where
             absurd ((g.holds.pair i j n).one_upgrade a.0 a.1 b.0 b.1)
       ]
 
-  sound : SoundState s.cells rs
+  pub sound : SoundState s.cells rs
   sound =
       let one = g.holds.one 0 in
       record {

@@ -5,9 +5,11 @@ pub mod Answers
 pub mod Runs
 pub mod Model
 pub mod Counted
-pub mod Rows
 pub mod History
+pub mod Needs
+pub mod Rows
+pub mod Charges
+pub mod Copying
 pub mod Promises
 pub mod Cases
 pub mod Answering
-pub mod Copying

@@ -1,16 +1,10 @@
--- What a run leaves in a row of the table.
-use Rattle.std.specs.Prelude.{ℕ, cond, List, [], ◌∷◌, ◌==◌}
+-- What a run leaves in a row of the table, and what a read answers by it.
+use Rattle.std.specs.Prelude.{◌≡◌, ℕ, ◌<◌, ◌≤◌, cond, ◌&&◌, List, [], ◌∷◌, Some, None, ◌==◌, ◌↔◌}
 use Rattle.calls.specs.Steps.{Answer, Call, advance, begin, done, downgrade, gives, hands, lay_back, leave, no, put, read, take, upgrade}
-use Rattle.lock.specs.Runs.{Made}
+use Rattle.lock.specs.Needs.{IsRefused}
+use Rattle.lock.specs.Runs.{Made, was_obeyed}
 
--- an obeyed put leaves its number where v stood
-abbrev pub left_by : Answer → ℕ → ℕ → ℕ
-left_by done number v = number
-left_by (hands w k t) number v = v
-left_by (gives o) number v = v
-left_by (no e) number v = v
-
--- a call leaves in a row what stood there, but for a put into it
+-- a call leaves in a row what stood there, but for an obeyed put into it
 abbrev pub left_in : ℕ → Call → Answer → ℕ → ℕ
 left_in row (begin t) a v = v
 left_in row (advance t) a v = v
@@ -20,9 +14,24 @@ left_in row (upgrade k t) a v = v
 left_in row (downgrade k t) a v = v
 left_in row (leave w k t) a v = v
 left_in row (read w k t r) a v = v
-left_in row (put k t r number) a v = cond (r == row) (left_by a number v) v
+left_in row (put k t r number) a v = cond (was_obeyed a && (r == row)) number v
 
 -- the number last put into a row by these calls, or v if none was
 abbrev pub last_put : ℕ → List Made → ℕ → ℕ
 last_put row [] v = v
 last_put row (e ∷ es) v = last_put row es (left_in row e.call e.answer v)
+
+-- What a read answers where n was last put: a thickness from 1 to 1000000, and then n itself; that nobody measured the rib, exactly
+-- at 0; and that the row is damaged, exactly above 1000000.
+pub record Reads (n : ℕ) (a : Answer) : Type 0 where
+  pub thickness : (v : ℕ) → a ≡ gives (Some v) → (1 ≤ v) × (v ≤ 1000000) × (v ≡ n)
+  pub measured : 1 ≤ n → n ≤ 1000000 → a ≡ gives (Some n)
+  pub unmeasured : a ≡ gives None ↔ n ≡ 0
+  pub damaged : IsRefused a 32 ↔ 1000000 < n
+
+-- an answer of the row: a thickness, absence, or that the row is damaged; so none of the read's other questions was answered no
+abbrev pub IsOfRow : Answer → Type 0
+IsOfRow done = ⊥
+IsOfRow (hands w k t) = ⊥
+IsOfRow (gives o) = Unit {0}
+IsOfRow (no e) = IsRefused (no e) 32

@@ -1,14 +1,33 @@
 -- Runs: any calls, with any arguments, obeyed or refused, each on what those before it left. A pass is data here: its right, its
 -- lock number and its task, whether or not it was ever handed out.
-use Rattle.std.specs.Prelude.{◌≡◌, ℕ, List, [], ◌∷◌}
+use Rattle.std.specs.Prelude.{◌≡◌, ℕ, Bool, true, false, List, [], ◌∷◌}
 use Rattle.memory.specs.Calls.{Doing}
 use Rattle.calls.specs.States.{State}
-use Rattle.calls.specs.Steps.{Answer, Call, Calls}
+use Rattle.calls.specs.Steps.{Answer, Call, Calls, advance, begin, done, downgrade, gives, hands, lay_back, leave, no, put, read, take, upgrade}
 
 -- a call that was made, and what it answered
 pub record Made : Type 0 where
   pub call : Call
   pub answer : Answer
+
+-- whether a call with this answer was obeyed
+abbrev pub was_obeyed : Answer → Bool
+was_obeyed done = true
+was_obeyed (hands w k t) = true
+was_obeyed (gives o) = true
+was_obeyed (no e) = false
+
+-- the task that a call is of
+abbrev pub task_of : Call → ℕ
+task_of (begin t) = t
+task_of (advance t) = t
+task_of (take w t) = t
+task_of (lay_back w k t) = t
+task_of (upgrade k t) = t
+task_of (downgrade k t) = t
+task_of (leave w k t) = t
+task_of (read w k t row) = t
+task_of (put k t row n) = t
 
 module _ {M : Type 0} (does : Doing M) (limit : ℕ) where
   -- The calls take the state from s to z and the memory from m to n, each by the relation that its own contract names, and P holds

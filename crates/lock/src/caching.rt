@@ -2,8 +2,8 @@
 ghost use Rattle.std.specs.Prelude.{IfOk};
 ghost use Rattle.cache.specs.Layers.{cached};
 ghost use Rattle.lock.specs.Counted.{CostsOne};
-ghost use Rattle.lock.specs.Promises.{CostBound, ExactCosts, Promised};
-ghost use Rattle.lock.specs.View.{Opened, view};
+ghost use Rattle.lock.specs.Promises.{KeepsCostBound, KeepsExactCosts, KeepsPromises};
+ghost use Rattle.lock.specs.View.{Opened};
 
 use crate::locks::Lock;
 use cache::layer::Cache;
@@ -16,9 +16,9 @@ impl<'a, B: Memory, Q: Queue> Lock<'a, Cache<B>, Q> {
     // Refused: 11 to 16.
     pub fn open_cached(&mut self, roles: &[u8]) -> Result<(), Refusal>
         ensures opens { Opened (cached B.Memory) Q.Queue self.old roles.now result self.new }
-        ensures promises { IfOk result (λ _. Promised (cached B.Memory).does B.Memory.limit (view (cached B.Memory) Q.Queue self.new) self.new.memory roles.now) }
-        ensures cost_bound { IfOk result (λ _. CostBound (cached B.Memory).does B.Memory.limit (view (cached B.Memory) Q.Queue self.new) self.new.memory (B.Memory.top self.old.memory.below)) }
-        ensures exact_costs { CostsOne B.Memory.does → IfOk result (λ _. ExactCosts (cached B.Memory).does B.Memory.limit (view (cached B.Memory) Q.Queue self.new) self.new.memory (λ m. m.copies.masks)) }
+        ensures promises { IfOk result (λ _. KeepsPromises (cached B.Memory) Q.Queue self.new roles.now) }
+        ensures cost_bound { IfOk result (λ _. KeepsCostBound (cached B.Memory) Q.Queue self.new (B.Memory.top self.old.memory.below)) }
+        ensures exact_costs { CostsOne B.Memory.does → IfOk result (λ _. KeepsExactCosts (cached B.Memory) Q.Queue self.new (λ m. m.copies.masks)) }
     {
         self.open(roles)
     }

@@ -4,8 +4,7 @@ ghost use Rattle.calls.specs.Opening.{Wrote, enlisted, opening_writes};
 ghost use Rattle.std.specs.List.{list_all};
 ghost use Rattle.lines.specs.Roles.{is_role};
 ghost use Rattle.lock.specs.Answers.{Asked};
-ghost use Rattle.lock.specs.Copying.{CostBoundByCopies};
-ghost use Rattle.lock.specs.Promises.{Promised};
+ghost use Rattle.lock.specs.Promises.{KeepsCostBoundByCopies, KeepsPromises};
 ghost use Rattle.lock.specs.View.{Opened, closed_over, open_refused, records_of, view};
 
 use crate::locks::Lock;
@@ -118,8 +117,8 @@ impl<'a, M: Memory, Q: Queue> Lock<'a, M, Q> {
     // (Bytes, since whoever calls may have any: those that are no roles are refused.)
     pub fn open(&mut self, roles: &[u8]) -> Result<(), Refusal>
         ensures opens { Opened M.Memory Q.Queue self.old roles.now result self.new }
-        ensures promises { IfOk result (λ _. Promised M.Memory.does M.Memory.limit (view M.Memory Q.Queue self.new) self.new.memory roles.now) }
-        ensures cost_bound { IfOk result (λ _. CostBoundByCopies M.Memory (view M.Memory Q.Queue self.new) self.new.memory (M.Memory.top self.old.memory)) }
+        ensures promises { IfOk result (λ _. KeepsPromises M.Memory Q.Queue self.new roles.now) }
+        ensures cost_bound { IfOk result (λ _. KeepsCostBoundByCopies M.Memory Q.Queue self.new (M.Memory.top self.old.memory)) }
     {
         self.ask_open(roles)?;
         set_cells(&mut self.memory)?;

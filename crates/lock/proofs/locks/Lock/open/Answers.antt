@@ -31,5 +31,5 @@ returns-clause-cost_bound g c = λ masks charges.
     let s = c.args.self.now in
     let roles = c.args.roles.now in
     opened_cost m.does masks m.top
-    (λ a b t op share d. let k = charges.1 a b t op share d in record { within = k.0; left = k.1; same_ceiling = (g.met.M.Memory.kept a b t op share d).2 }) m.limit
-    (open_refused m g.Q.Queue s roles) (view m g.Q.Queue s) _ s.memory _ roles _ refl (charges.0 s.memory) (returns-clause-opens g c).0
+    (λ a b t op share d. record { within = charges.share a b t op share d; left = charges.copies a b t op share d; same_ceiling = (g.met.M.Memory.kept a b t op share d).2 }) m.limit
+    (open_refused m g.Q.Queue s roles) (view m g.Q.Queue s) _ s.memory _ roles _ refl (charges.seven s.memory) (returns-clause-opens g c).0

@@ -1,0 +1,166 @@
+-- What the questions of a call ask is what it needs: where none is answered no it has that, and where it has that none is.
+use Rattle.std.proofs.Common.{◌≡◌, ℕ, ◌+◌, ◌<◌, ◌≤◌, ◌⊎◌, true, eqb, leb, ltb, length, get_or, Some, None, Option, sym, refl, ap, ◌∙◌, subst, inl, inr, arith}
+use Rattle.std.proofs.lemmas.Bool.{and_from, and_parts, cases_Bool, eq-eqb, eqb-true, false≢true, le-leb, leb-true, lt-ltb, ltb-true}
+use Rattle.lines.specs.declared.place.Place.{Place}
+use Rattle.lines.specs.declared.place.Place.TheVariants.{Rest, Inside, Next}
+use Rattle.lines.specs.declared.place.Right.{Right}
+use Rattle.lines.specs.declared.place.Right.TheVariants.{Reading, Writing}
+use Rattle.lines.specs.Rights.{right_of, same_right}
+use Rattle.calls.specs.declared.refusal.Refusal.{Refusal}
+use Rattle.calls.specs.declared.refusal.Refusal.TheVariants.{Finished, NoPass, NoRow, NoTask, OtherLock, OtherRight, Shut, Stored, Thickness, Upgrades}
+use Rattle.calls.specs.Questions.{ask, advance_refusal, advance_refusal_at, begin_refusal, begin_refusal_at, is_out, out_for, pass_refusal, row_refusal, take_refusal, task_refusal, thickness_refusal, upgrade_refusal}
+use Rattle.calls.specs.Records.{begun, downgrading, leaving, upgrading, with_out}
+use Rattle.calls.specs.States.{State, record_of, with_record, with_row}
+use Rattle.calls.specs.Steps.{Answer, Call, Verdict, advance, asked, at_once, begin, done, downgrade, gives, hands, judge, lay_back, leave, line, no, put, read, refuse, row_answer, take, upgrade}
+use Rattle.calls.proofs.Obeyed.{yes}
+use Rattle.lock.specs.Charges.{unfinished}
+use Rattle.lock.specs.Needs.{IsDamaged, IsRefused, Needs, OnLine}
+use Rattle.lock.specs.Promises.{Obeyed}
+use Rattle.lock.specs.Runs.{task_of, was_obeyed}
+use Rattle.lock.proofs.Recorded.{told, some_none}
+
+-- What the questions on a pass tell.
+
+pub same_is : (v w : Right) → same_right v w ≡ true → v ≡ w
+same_is Reading Reading h = refl
+same_is Reading Writing h = absurd (false≢true h)
+same_is Writing Reading h = absurd (false≢true h)
+same_is Writing Writing h = refl
+
+pub same_itself : (w : Right) → same_right w w ≡ true
+same_itself Reading = refl
+same_itself Writing = refl
+
+pub out_is : (o : Option Right) (w : Right) → out_for o w ≡ true → o ≡ Some w
+out_is None w h = absurd (false≢true h)
+out_is (Some v) w h = ap Some (same_is v w h)
+
+pub takes : (has out : Option Right) (w : Right) → take_refusal has out w ≡ None → (has ≡ Some w) × (out ≡ None)
+takes None out w h = absurd (some_none _ h)
+takes (Some v) (Some x) w h = absurd (some_none _ h)
+takes (Some v) None w h = (ap Some (same_is v w (yes (same_right v w) OtherRight None h).0), refl)
+
+pub may_begin : (p : Place) (n : ℕ) → begin_refusal_at p n ≡ None → (p ≡ Rest) × (n + unfinished p < 1000000)
+may_begin Rest n h = (refl, let k = ltb-true n 1000000 (yes (ltb n 1000000) Finished None h).0 in omega arith)
+may_begin Inside n h = absurd (some_none _ h)
+may_begin (Next l) n h = absurd (some_none _ h)
+
+pub may_advance : (p : Place) → advance_refusal_at p ≡ None → OnLine p
+may_advance Rest h = absurd (some_none _ h)
+may_advance Inside h = absurd (some_none _ h)
+may_advance (Next l) h = (l, refl)
+
+pub in_rows : (row rows : ℕ) → row_refusal row rows ≡ None → row < rows
+in_rows row rows h = ltb-true row rows (yes (ltb row rows) NoRow None h).0
+
+pub is_thickness : (n : ℕ) → thickness_refusal n ≡ None → (1 ≤ n) × (n ≤ 1000000)
+is_thickness n h =
+    let a = yes (leb 1 n) Thickness _ h in
+    let b = yes (leb n 1000000) Thickness None a.1 in
+    (leb-true 1 n a.0, leb-true n 1000000 b.0)
+
+pub shown : (s : State) (w : Right) (k t : ℕ) → pass_refusal s w k t ≡ None → (k ≡ s.number) × ((record_of s t).out ≡ Some w)
+shown s w k t h =
+    let a = yes s.opened Shut _ h in
+    let b = yes (eqb k s.number) OtherLock _ a.1 in
+    let c = yes (is_out s w t) NoPass None b.1 in
+    let out : out_for (record_of s t).out w ≡ true = (and_parts _ _ c.0).1 in
+    (eqb-true k s.number b.0, out_is (record_of s t).out w out)
+
+-- What a call needs, by the state itself.
+abbrev pub NeedsIn : State → Call → Type 0
+NeedsIn s c = Needs s.number (length s.records) (length s.table) (told (record_of s (task_of c))) (record_of s (task_of c)).track c
+
+-- a call that has it meets no question
+
+pub clear_task : (s : State) (t : ℕ) → s.opened ≡ true → 1 ≤ t → t ≤ length s.records → task_refusal s t ≡ None
+clear_task s t opened low high =
+    ap (λ b. ask b Shut (ask (leb 1 t) NoTask (ask (leb t (length s.records)) NoTask None))) opened
+    ∙ ap (λ b. ask b NoTask (ask (leb t (length s.records)) NoTask None)) (le-leb 1 t low)
+    ∙ ap (λ b. ask b NoTask None) (le-leb t (length s.records) high)
+
+pub clear_pass : (s : State) (w : Right) (k t : ℕ) → s.opened ≡ true → 1 ≤ t → t ≤ length s.records → k ≡ s.number → (record_of s t).out ≡ Some w → pass_refusal s w k t ≡ None
+clear_pass s w k t opened low high number e =
+    let out : is_out s w t ≡ true = and_from _ _ (and_from _ _ (le-leb 1 t low) (le-leb t (length s.records) high)) (ap (λ o. out_for o w) e ∙ same_itself w) in
+    ap (λ b. ask b Shut (ask (eqb k s.number) OtherLock (ask (is_out s w t) NoPass None))) opened
+    ∙ ap (λ b. ask b OtherLock (ask (is_out s w t) NoPass None)) (eq-eqb k s.number number)
+    ∙ ap (λ b. ask b NoPass None) out
+
+pub clear_begin : (p : Place) (n : ℕ) → p ≡ Rest → n + unfinished p < 1000000 → begin_refusal_at p n ≡ None
+clear_begin Rest n e h = ap (λ b. ask b Finished None) (lt-ltb n 1000000 (omega arith))
+clear_begin Inside n e h = let z : ◌≡◌ {A = ℕ} 0 1 = cc in absurd (omega arith)
+clear_begin (Next l) n e h = let z : ◌≡◌ {A = ℕ} 0 1 = cc in absurd (omega arith)
+
+pub clear_take : (has out : Option Right) (w : Right) → has ≡ Some w → out ≡ None → take_refusal has out w ≡ None
+clear_take has out w e k = rw (e, k, same_itself w) refl
+
+pub clear_row : (row rows : ℕ) → row < rows → row_refusal row rows ≡ None
+clear_row row rows h = ap (λ b. ask b NoRow None) (lt-ltb row rows h)
+
+pub clear_thickness : (n : ℕ) → 1 ≤ n → n ≤ 1000000 → thickness_refusal n ≡ None
+clear_thickness n low high = ap (λ b. ask b Thickness (ask (leb n 1000000) Thickness None)) (le-leb 1 n low) ∙ ap (λ b. ask b Thickness None) (le-leb n 1000000 high)
+
+-- a row answers a thickness or absence, or that it is damaged
+pub row_clear : (n : ℕ) → (was_obeyed (row_answer n) ≡ true) ⊎ IsRefused (row_answer n) 32
+row_clear n =
+    elim (cases_Bool (eqb n 0)) [
+      | inl none ↦ inl (rw none refl)
+      | inr some ↦ elim (cases_Bool (leb n 1000000)) [ inl few ↦ inl (rw (some, few) refl) | inr much ↦ inr (rw (some, much) refl) ]
+    ]
+
+pub told_row : (n : ℕ) → was_obeyed (row_answer n) ≡ true → (o : Option ℕ) × (row_answer n ≡ gives o)
+told_row n h =
+    elim (cases_Bool (eqb n 0)) [
+      | inl none ↦ (None, rw none refl)
+      | inr some ↦ elim (cases_Bool (leb n 1000000)) [
+        | inl few ↦ (Some n, rw (some, few) refl)
+        | inr much ↦ let k : row_answer n ≡ no Stored = rw (some, much) refl in absurd (false≢true (sym (ap was_obeyed k) ∙ h))
+      ]
+    ]
+
+-- a verdict that is no refusal, but for a damaged row
+abbrev pub Clear : Call → Verdict → Type 0
+Clear c (refuse e) = ⊥
+Clear c (line t r) = Unit {0}
+Clear c (at_once a z) = (was_obeyed a ≡ true) ⊎ IsDamaged c a
+
+pub asked_clear : (c : Call) (o : Option Refusal) (v : Verdict) → o ≡ None → Clear c v → Clear c (asked o v)
+asked_clear c o v e h = subst (λ x. Clear c (asked x v)) (sym e) h
+
+pub judged_clear : (c : Call) (s : State) → s.opened ≡ true → NeedsIn s c → Clear c (judge c s)
+judged_clear (begin t) s opened (low, high, (rests, few)) =
+    let r = record_of s t in
+    asked_clear (begin t) (task_refusal s t) (asked (begin_refusal r) (line t (begun r))) (clear_task s t opened low high)
+    (asked_clear (begin t) (begin_refusal r) (line t (begun r)) (clear_begin r.track.place r.account.finished rests few) tt)
+judged_clear (advance t) s opened (low, high, (l, is)) =
+    let r = record_of s t in
+    asked_clear (advance t) (task_refusal s t) (asked (advance_refusal r) (line t r)) (clear_task s t opened low high) (asked_clear (advance t) (advance_refusal r) (line t r) (ap advance_refusal_at is) tt)
+judged_clear (take w t) s opened (low, high, (has, none)) =
+    let r = record_of s t in
+    let free = take_refusal (right_of r.track) r.out w in
+    let v = at_once (hands w s.number t) (with_record s t (with_out r (Some w))) in
+    asked_clear (take w t) (task_refusal s t) (asked free v) (clear_task s t opened low high) (asked_clear (take w t) free v (clear_take (right_of r.track) r.out w has none) (inl refl))
+judged_clear (lay_back w k t) s opened (low, high, (number, out)) =
+    asked_clear (lay_back w k t) (pass_refusal s w k t) (at_once done (with_record s t (with_out (record_of s t) None))) (clear_pass s w k t opened low high number out) (inl refl)
+judged_clear (upgrade k t) s opened (low, high, ((number, out), few)) =
+    let r = record_of s t in
+    asked_clear (upgrade k t) (pass_refusal s Reading k t) (asked (upgrade_refusal r) (line t (upgrading r))) (clear_pass s Reading k t opened low high number out)
+    (asked_clear (upgrade k t) (upgrade_refusal r) (line t (upgrading r)) (ap (λ b. ask b Upgrades None) (lt-ltb r.account.u 1000 few)) tt)
+judged_clear (downgrade k t) s opened (low, high, (number, out)) =
+    asked_clear (downgrade k t) (pass_refusal s Writing k t) (line t (downgrading (record_of s t))) (clear_pass s Writing k t opened low high number out) tt
+judged_clear (leave w k t) s opened (low, high, (number, out)) =
+    asked_clear (leave w k t) (pass_refusal s w k t) (line t (leaving (record_of s t))) (clear_pass s w k t opened low high number out) tt
+judged_clear (read w k t row) s opened (low, high, ((number, out), there)) =
+    let v = at_once (row_answer (get_or s.table row 0)) s in
+    asked_clear (read w k t row) (pass_refusal s w k t) (asked (row_refusal row (length s.table)) v) (clear_pass s w k t opened low high number out)
+    (asked_clear (read w k t row) (row_refusal row (length s.table)) v (clear_row row (length s.table) there) (row_clear (get_or s.table row 0)))
+judged_clear (put k t row n) s opened (low, high, ((number, out), there, some, few)) =
+    let v = at_once done (with_row s row n) in
+    asked_clear (put k t row n) (pass_refusal s Writing k t) (asked (row_refusal row (length s.table)) (asked (thickness_refusal n) v)) (clear_pass s Writing k t opened low high number out)
+    (asked_clear (put k t row n) (row_refusal row (length s.table)) (asked (thickness_refusal n) v) (clear_row row (length s.table) there)
+    (asked_clear (put k t row n) (thickness_refusal n) v (clear_thickness n some few) (inl refl)))
+
+pub obeyed_clear : (c : Call) (v : Verdict) (s z : State) (a : Answer) → Obeyed v s a z → Clear c v → (was_obeyed a ≡ true) ⊎ IsDamaged c a
+obeyed_clear c (refuse f) s z a x h = absurd h
+obeyed_clear c (line t r) s z a (x, y) h = inl (ap was_obeyed x)
+obeyed_clear c (at_once b w) s z a (x, y) h = subst (λ d. (was_obeyed d ≡ true) ⊎ IsDamaged c d) (sym x) h
