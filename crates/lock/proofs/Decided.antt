@@ -20,9 +20,8 @@ use Rattle.calls.specs.Records.{arrived, begun, downgrading, fresh, leaving, set
 use Rattle.calls.specs.States.{State, record_of, with_record, with_row}
 use Rattle.calls.specs.Steps.{Answer, Call, Verdict, advance, after_deed, asked, at_once, begin, done, downgrade, hands, judge, lay_back, leave, line, put, read, refuse, row_answer, take, upgrade}
 use Rattle.lock.specs.Model.{model_run, model_step, modelled, unpaid, unpaid_record}
-use Rattle.lock.specs.Promises.{Obeyed}
 use Rattle.lock.specs.Runs.{Made, RunWhile}
-use Rattle.lock.proofs.Runs.{Able, call_able, call_kept}
+use Rattle.lock.proofs.Runs.{Able, Obeyed, call_able, call_kept}
 
 -- the verdict on the state without costs
 abbrev unpaid_verdict : Verdict → Verdict

@@ -15,9 +15,9 @@ use Rattle.calls.specs.Steps.{Answer, Call, Verdict, advance, asked, at_once, be
 use Rattle.calls.proofs.Obeyed.{yes}
 use Rattle.lock.specs.Charges.{unfinished}
 use Rattle.lock.specs.Needs.{IsDamaged, IsRefused, Needs, OnLine}
-use Rattle.lock.specs.Promises.{Obeyed}
 use Rattle.lock.specs.Runs.{task_of, was_obeyed}
 use Rattle.lock.proofs.Recorded.{told, some_none}
+use Rattle.lock.proofs.Runs.{Obeyed}
 
 -- What the questions on a pass tell.
 

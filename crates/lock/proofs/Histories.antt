@@ -28,13 +28,13 @@ use Rattle.calls.proofs.Sound.{has_out, parts}
 use Rattle.lock.specs.Charges.{Charges, Counts, Finishes, TellsShare, cost_after, cost_made, unfinished}
 use Rattle.lock.specs.History.{History, history, history_from, made_in, nothing_yet, obeyed_in}
 use Rattle.lock.specs.Needs.{AnswersSo, IsDamaged, Needs}
-use Rattle.lock.specs.Promises.{HasRight, Obeyed}
+use Rattle.lock.specs.Promises.{HasRight}
 use Rattle.lock.proofs.RowRuns.{MayRead}
 use Rattle.lock.specs.Runs.{Made, RunWhile, task_of, was_obeyed}
 use Rattle.lock.proofs.Allowed.{allowed}
 use Rattle.lock.proofs.Judged.{Holding, Lawful, pass_there, task_there}
 use Rattle.lock.proofs.Meant.{Meant, meant}
-use Rattle.lock.proofs.Runs.{Able, call_able, call_kept, no_right_beside, none_of, run_able}
+use Rattle.lock.proofs.Runs.{Able, Obeyed, call_able, call_kept, no_right_beside, none_of, run_able}
 use Rattle.lock.proofs.Granted.{same_itself, takes, may_begin, may_advance, in_rows, is_thickness, shown, NeedsIn, clear_pass, clear_row, told_row, judged_clear, obeyed_clear}
 use Rattle.lock.proofs.Recorded.{told, says_of, arrived_told, cond_same, quiet_finishes, Away, moves, none_some, begins, away_unfinished, rests_before, on_line_away, right_away}
 

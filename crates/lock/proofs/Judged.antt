@@ -44,7 +44,7 @@ module _ (i prev curr d x : ℕ) where
   abbrev track : Place → Role → Standing → Track
   track p o s = record { role = o; place = p; standing = s; prev = prev; curr = curr; d = d; x = x }
 
-  begin_leads : (p : Place) (o : Role) (s : Standing) (finished : ℕ) → begin_refusal_at p finished ≡ None → Leads i (track p o s) (goes (track p o s) (begin_line o)) (begin_line o)
+  pub begin_leads : (p : Place) (o : Role) (s : Standing) (finished : ℕ) → begin_refusal_at p finished ≡ None → Leads i (track p o s) (goes (track p o s) (begin_line o)) (begin_line o)
   begin_leads Rest Reader s finished h = record { before = (refl, refl); deed = λ t. refl; steps = λ f. refl }
   begin_leads Rest Writer s finished h = record { before = (refl, refl); deed = λ t. refl; steps = λ f. refl }
   begin_leads Inside o s finished h = absurd (none_is_some _ h)
@@ -53,12 +53,12 @@ module _ (i prev curr d x : ℕ) where
   on_line : (c : Cells) (l : Line) (o : Role) (s : Standing) → OneTask c (seen i (track (Next l) o s)) → Before l (seen i (track (Next l) o s))
   on_line c l o s m = grind arith
 
-  advance_leads : (c : Cells) (p : Place) (o : Role) (s : Standing) → OneTask c (seen i (track p o s)) → advance_refusal_at p ≡ None → (l : Line) × Leads i (track p o s) (track p o s) l × (rank_of_line l ≤ 39)
+  pub advance_leads : (c : Cells) (p : Place) (o : Role) (s : Standing) → OneTask c (seen i (track p o s)) → advance_refusal_at p ≡ None → (l : Line) × Leads i (track p o s) (track p o s) l × (rank_of_line l ≤ 39) × (p ≡ Next l)
   advance_leads c Rest o s m h = absurd (none_is_some _ h)
   advance_leads c Inside o s m h = absurd (none_is_some _ h)
-  advance_leads c (Next l) o s m h = (l, record { before = on_line c l o s m; deed = λ t. refl; steps = λ f. refl }, m.known_rank)
+  advance_leads c (Next l) o s m h = (l, record { before = on_line c l o s m; deed = λ t. refl; steps = λ f. refl }, m.known_rank, refl)
 
-  upgrade_leads : (p : Place) (o : Role) (s : Standing) → right_at p o s ≡ Some Reading → Leads i (track p o s) (goes (track p o s) upgrade_line) L27p1
+  pub upgrade_leads : (p : Place) (o : Role) (s : Standing) → right_at p o s ≡ Some Reading → Leads i (track p o s) (goes (track p o s) upgrade_line) L27p1
   upgrade_leads Rest o s h = absurd (some_is_none _ h)
   upgrade_leads Inside Reader Normal h = record { before = (omega arith, omega arith, refl); deed = λ t. refl; steps = λ f. refl }
   upgrade_leads Inside Writer Normal h = let z : ◌≡◌ {A = ℕ} 0 1 = cc in absurd (omega arith)
@@ -67,7 +67,7 @@ module _ (i prev curr d x : ℕ) where
   upgrade_leads Inside Writer Downgraded h = record { before = (omega arith, omega arith, refl); deed = λ t. refl; steps = λ f. refl }
   upgrade_leads (Next l) o s h = absurd (some_is_none _ h)
 
-  downgrade_leads : (p : Place) (o : Role) (s : Standing) → right_at p o s ≡ Some Writing → Leads i (track p o s) (goes (track p o s) (downgrade_line s)) (downgrade_line s)
+  pub downgrade_leads : (p : Place) (o : Role) (s : Standing) → right_at p o s ≡ Some Writing → Leads i (track p o s) (goes (track p o s) (downgrade_line s)) (downgrade_line s)
   downgrade_leads Rest o s h = absurd (some_is_none _ h)
   downgrade_leads Inside Reader Normal h = let z : ◌≡◌ {A = ℕ} 0 1 = cc in absurd (omega arith)
   downgrade_leads Inside Writer Normal h = record { before = refl; deed = λ t. refl; steps = λ f. refl }
@@ -77,7 +77,7 @@ module _ (i prev curr d x : ℕ) where
   downgrade_leads Inside Writer Downgraded h = let z : ◌≡◌ {A = ℕ} 0 1 = cc in absurd (omega arith)
   downgrade_leads (Next l) o s h = absurd (some_is_none _ h)
 
-  leave_leads : (p : Place) (o : Role) (s : Standing) (w : Right) → right_at p o s ≡ Some w → Leads i (track p o s) (goes (track p o s) (leave_line o s)) (leave_line o s)
+  pub leave_leads : (p : Place) (o : Role) (s : Standing) (w : Right) → right_at p o s ≡ Some w → Leads i (track p o s) (goes (track p o s) (leave_line o s)) (leave_line o s)
   leave_leads Rest o s w h = absurd (some_is_none _ h)
   leave_leads Inside Reader Normal w h = record { before = (omega arith, omega arith, refl); deed = λ t. refl; steps = λ f. refl }
   leave_leads Inside Writer Normal w h = record { before = refl; deed = λ t. refl; steps = λ f. refl }
@@ -175,7 +175,7 @@ module _ (s : State) (t : ℕ) (g : Lawful s) where
   due_advance there on =
       let (low, high) = task_there s t there in
       let k = r.track in
-      let (l, leads, later) = advance_leads (t - 1) k.prev k.curr k.d k.x _ k.place k.role k.standing (g.holds.one (t - 1)) on in
+      let (l, leads, later, is) = advance_leads (t - 1) k.prev k.curr k.d k.x _ k.place k.role k.standing (g.holds.one (t - 1)) on in
       record { low = low; high = high; next = l; leads = leads; account = later_account l r.account later; ordered = g.ordered (t - 1); on_line = on }
 
   pub due_upgrade : Holding s Reading t → upgrade_refusal r ≡ None → Due s t (upgrading r)

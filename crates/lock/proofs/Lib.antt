@@ -15,6 +15,7 @@ pub mod Decided
 pub mod Recorded
 pub mod Granted
 pub mod Histories
+pub mod OneLines
 pub mod Measured
 pub mod Promised
 pub mod Costs

@@ -26,6 +26,7 @@ use Rattle.lock.proofs.Holds.{Holds, at}
 use Rattle.lock.proofs.Judged.{Lawful, pass_there}
 use Rattle.lock.proofs.Measured.{reads}
 use Rattle.lock.proofs.RowRuns.{of_row, read_told, run_row, table_still}
+use Rattle.lock.proofs.OneLines.{call_did}
 use Rattle.lock.proofs.Recorded.{told}
 use Rattle.lock.proofs.Runs.{Able, call_kept, excluded, no_right_beside, run_able, section_with_right}
 use Rattle.lock.proofs.SoundRuns.{sound, unbroken}
@@ -60,7 +61,8 @@ module _ {M : Type 0} (does : Doing M) (limit : ℕ) (s : State) (m : M) (roles 
         passes = λ es z n run t low. passes does limit s first g _ es z m n run t low;
         counted_accounts = λ es z n run t low. counts does limit s first g _ es z m n run t low;
         charged_accounts = λ es z n run c a y p call. charged_account does limit c z y n p a (able es z n run) call;
-        obedience = λ es z n run c a y p call. let k = call_kept does limit c z y n p a (able es z n run) call in (k.own, k.obeyed);
+        own_refusals = λ es z n run c a y p call. (call_kept does limit c z y n p a (able es z n run) call).own;
+        one_line = λ es z n run c a y p call. call_did does limit c z y n p a (able es z n run) call;
         soundness = λ es z n run. let k = (able es z n run).lawful in (sound z k, (None, unbroken z k, refl));
         lines_decide = λ es z n run. decided does limit _ es s z m n g run ∙ ap (model_run es) free;
       }

@@ -11,9 +11,9 @@ use Rattle.lines.specs.Classes.{has_upgraded, in_section, is_counted, is_upgradi
 use Rattle.lines.specs.Lines.{next_deed}
 use Rattle.lines.specs.Rights.{right_at, right_of}
 use Rattle.calls.specs.States.{State, record_of}
-use Rattle.calls.specs.Steps.{Answer, Call, Calls, Carried, Verdict, after_deed, at_once, done, judge, line, lined, refuse}
+use Rattle.calls.specs.Steps.{Answer, Call, Calls, Carried, Verdict, after_deed, at_once, done, judge, line, lined, no, refuse}
 use Rattle.calls.proofs.Obeyed.{call_same}
-use Rattle.lock.specs.Promises.{HasRight, IsOwn, Obeyed}
+use Rattle.lock.specs.Promises.{HasRight, IsOwn}
 use Rattle.lock.specs.Runs.{Made, RunWhile}
 use Rattle.lock.proofs.Allowed.{allowed}
 use Rattle.lock.proofs.Facts.{Cells, OneTask, Task, TwoTasks}
@@ -27,6 +27,12 @@ pub record Able (limit : ℕ) (s : State) : Type 0 where
   pub lawful : Lawful s
   pub fits : length s.records ≤ limit
   pub two : 2 ≤ limit
+
+-- What the questions came to is what happens: a refusal leaves all as it was, a line that is due is done, an answer is given
+abbrev pub Obeyed : Verdict → State → Answer → State → Type 0
+Obeyed (refuse e) z a y = (a ≡ no e) × (y ≡ z)
+Obeyed (line t r) z a y = (a ≡ done) × ((share : ℕ) × (y ≡ after_deed t r (next_deed t r.track) share z))
+Obeyed (at_once b x) z a y = (a ≡ b) × (y ≡ x)
 
 -- a call is obeyed or meets a question of its own, and the facts hold after it
 pub record CallKept (v : Verdict) (s : State) (a : Answer) (z : State) : Type 0 where

@@ -5,6 +5,7 @@ pub mod Answers
 pub mod Runs
 pub mod Model
 pub mod Counted
+pub mod OneLine
 pub mod History
 pub mod Needs
 pub mod Rows

@@ -9,7 +9,6 @@ use Rattle.lines.specs.declared.place.Right.TheVariants.{Reading, Writing}
 use Rattle.lines.specs.declared.place.Role.TheVariants.{Reader, Writer}
 use Rattle.lines.specs.declared.place.Standing.TheVariants.{Normal}
 use Rattle.lines.specs.Classes.{in_section}
-use Rattle.lines.specs.Lines.{next_deed}
 use Rattle.lines.specs.Rights.{right_of}
 use Rattle.calls.specs.declared.record.Record.{Record}
 use Rattle.calls.specs.declared.rule.Rule.{Rule}
@@ -18,7 +17,7 @@ use Rattle.calls.specs.Refusals.{refusal_number}
 use Rattle.calls.specs.Rules.{rule_number}
 use Rattle.calls.specs.SoundState.{SoundState}
 use Rattle.calls.specs.States.{State, record_of}
-use Rattle.calls.specs.Steps.{Answer, Call, Calls, Verdict, after_deed, at_once, done, gives, hands, judge, line, no, read, refuse}
+use Rattle.calls.specs.Steps.{Answer, Call, Calls, done, gives, hands, no, read}
 use Rattle.lock.specs.declared.locks.Lock.{Lock}
 use Rattle.lock.specs.Charges.{Charges, Counts, TellsShare}
 use Rattle.lock.specs.Copying.{ChargesByCopies}
@@ -26,6 +25,7 @@ use Rattle.lock.specs.Counted.{counted_run}
 use Rattle.lock.specs.History.{history}
 use Rattle.lock.specs.Model.{model_run, unpaid}
 use Rattle.lock.specs.Needs.{AnswersSo, IsDamaged, Needs}
+use Rattle.lock.specs.OneLine.{Did, line_done}
 use Rattle.lock.specs.Rows.{IsOfRow, Reads, last_put}
 use Rattle.lock.specs.Runs.{Made, Run, RunWhile, task_of, was_obeyed}
 use Rattle.lock.specs.View.{view}
@@ -53,12 +53,6 @@ IsOwn done = Unit {0}
 IsOwn (hands w k t) = Unit {0}
 IsOwn (gives o) = Unit {0}
 IsOwn (no e) = 10 ≤ refusal_number e
-
--- what the questions came to is what happens: a refusal leaves all as it was, a line that is due is done, an answer is given
-abbrev pub Obeyed : Verdict → State → Answer → State → Type 0
-Obeyed (refuse e) z a y = (a ≡ no e) × (y ≡ z)
-Obeyed (line t r) z a y = (a ≡ done) × ((share : ℕ) × (y ≡ after_deed t r (next_deed t r.track) share z))
-Obeyed (at_once b x) z a y = (a ≡ b) × (y ≡ x)
 
 -- the number that a check of the state tells: that of the first broken rule, or 0 where none is broken
 abbrev pub rule_told : Option Rule → ℕ
@@ -127,10 +121,14 @@ module _ {M : Type 0} (does : Doing M) (limit : ℕ) (s : State) (m : M) where
       AlwaysNext (λ es z n c a y p. (share : ℕ) × TellsShare does n (task_of c) share p
       × ((t : ℕ) → 1 ≤ t → Charges t share (record { call = c; answer = a }) (record_of z t) (record_of y t)))
 
-  -- Obedience: neither memory nor queue ever refuses a call, and one that meets none of its own questions is obeyed, by the one line
-  -- that is due or the answer that is asked.
-  abbrev pub Obedience : Type 0
-  Obedience = AlwaysNext (λ es z n c a y p. IsOwn a × Obeyed (judge c z) z a y)
+  -- Own refusals: neither memory nor queue ever refuses a call.
+  abbrev pub OwnRefusals : Type 0
+  OwnRefusals = AlwaysNext (λ es z n c a y p. IsOwn a)
+
+  -- One line: an obeyed begin, advance, upgrade, downgrade or leave does the one line that its task's place and standing say; any other
+  -- call, and any refused one, does none.
+  abbrev pub OneLine : Type 0
+  OneLine = AlwaysNext (λ es z n c a y p. Did (task_of c) (line_done z (record { call = c; answer = a })) z y)
 
   -- Soundness: the state keeps the six rules, and the check finds none broken.
   abbrev pub Soundness : Type 0
@@ -146,7 +144,7 @@ module _ {M : Type 0} (does : Doing M) (limit : ℕ) (s : State) (m : M) where
   abbrev pub CostBound : ℕ → Type 0
   CostBound top = Always (λ es z n. (t : ℕ) → 1 ≤ t → (record_of z t).account.cost ≤ top * (20 + 5 * (history t es).upgrades + 2 * (history t es).downgrades))
 
-  -- Exact costs, over the cache layer on a memory whose operations cost 1: but for the answers, which obedience tells, state and
+  -- Exact costs, over the cache layer on a memory whose operations cost 1: but for the answers, state and
   -- copies are to the unit what the counted calls make of them.
   abbrev pub ExactCosts : (M → List ℕ) → Type 0
   ExactCosts masks = Always (λ es z n. (z ≡ (counted_run (map (λ e. e.call) es) (record { state = s; masks = masks m })).state) × (masks n ≡ (counted_run (map (λ e. e.call) es) (record { state = s; masks = masks m })).masks))
@@ -161,7 +159,8 @@ module _ {M : Type 0} (does : Doing M) (limit : ℕ) (s : State) (m : M) where
     pub passes : Passes
     pub counted_accounts : CountedAccounts
     pub charged_accounts : ChargedAccounts
-    pub obedience : Obedience
+    pub own_refusals : OwnRefusals
+    pub one_line : OneLine
     pub soundness : Soundness
     pub lines_decide : LinesDecide
 

@@ -16,12 +16,11 @@ use Rattle.calls.specs.Told.{right_told}
 use Rattle.lock.specs.declared.locks.Lock.{Lock}
 use Rattle.lock.specs.Answers.{said}
 use Rattle.lock.specs.Counted.{Counted, answer_of, counted}
-use Rattle.lock.specs.Promises.{Obeyed}
 use Rattle.lock.specs.View.{Does, view}
 use Rattle.lock.proofs.Copies.{cached_exact, opened_masks}
 use Rattle.lock.proofs.ExactRuns.{call_exact}
 use Rattle.lock.proofs.Promised.{able}
-use Rattle.lock.proofs.Runs.{Able, call_able, call_kept}
+use Rattle.lock.proofs.Runs.{Able, Obeyed, call_able, call_kept}
 use Rattle.script.specs.Calls.{Ask, advance, begin, downgrade, leave, opening, put, read, upgrade}
 use Rattle.listing.specs.declared.answer.Answer.{Answer}
 use Rattle.listing.specs.declared.answer.Answer.TheVariants as answer
