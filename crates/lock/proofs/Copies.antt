@@ -8,9 +8,11 @@ use Rattle.sets.specs.Sets.{holds, joined}
 use Rattle.sets.proofs.Put.{joins}
 use Rattle.memory.specs.declared.operation.Operation.{Operation}
 use Rattle.memory.specs.declared.operation.Operation.TheVariants.{Read, Write, Add, Swap}
+use Rattle.memory.specs.declared.interface.Memory.{Ghosts}
 use Rattle.memory.specs.Calls.{Doing, Kept}
 use Rattle.memory.specs.Cells.{zeros}
 use Rattle.memory.specs.Operations.{cell_of}
+use Rattle.cache.specs.Layers.{cached}
 use Rattle.cache.specs.Copies.{Cached, Empties}
 use Rattle.lines.specs.declared.deed.Deed.{Deed}
 use Rattle.lines.specs.declared.deed.Deed.TheVariants.{Touch, Join, First, Quit, Nothing}
@@ -20,6 +22,7 @@ use Rattle.lines.specs.declared.track.Track.{Track}
 use Rattle.lines.specs.Lines.{deed_of}
 use Rattle.calls.specs.Steps.{Shares}
 use Rattle.calls.specs.Opening.{Wrote, opening_writes}
+use Rattle.lock.specs.Copying.{ChargesByCopies}
 use Rattle.lock.specs.Counted.{CostsOne, masks_after, unit_share}
 use Rattle.lock.proofs.Opened.{seven_of}
 use Rattle.lock.proofs.Costs.{Units, charge, other_copies, own_copies, purse}
@@ -138,6 +141,15 @@ module _ {S : Type 0} (cells : S → List ℕ) (top : S → ℕ) (does : Doing S
   cached_charged s t masks masks' task (Write c n) share d = emptied s t masks masks' task c (Write c n) share d
   cached_charged s t masks masks' task (Add c p) share d = emptied s t masks masks' task c (Add c p) share d
   cached_charged s t masks masks' task (Swap c e n) share d = emptied s t masks masks' task c (Swap c e n) share d
+
+-- so it charges by copies
+pub cached_by_copies : {B : Type 0} (mem : Ghosts B) → ((s t : B) (task : ℕ) (op : Operation) (share : ℕ) → mem.does s task op share t → Kept mem.cells mem.top s op share t) → ChargesByCopies (cached mem) (λ m. m.copies.masks)
+cached_by_copies mem law =
+    record {
+      seven = λ m. m.copies.seven;
+      share = λ m n t op told d. (cached_charged mem.cells mem.top mem.does law m.below n.below m.copies.masks n.copies.masks t op told d).within;
+      copies = λ m n t op told d. (cached_charged mem.cells mem.top mem.does law m.below n.below m.copies.masks n.copies.masks t op told d).left;
+    }
 
 -- a memory that charges each operation so charges each deed of a line so
 module _ {M : Type 0} (does : Doing M) (masks : M → List ℕ) (top : M → ℕ) (law : (m n : M) (t : ℕ) (op : Operation) (share : ℕ) → does m t op share n → ChargedByUnits (Touch op) t (top m) (masks m) share (top n) (masks n)) where
