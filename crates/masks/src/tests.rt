@@ -1,5 +1,7 @@
 // A drill that every queue has to pass, and the numbers of the refusals. The drill
 // is generic, so that each queue is asked the same and has to answer the same.
+ghost use Rattle.std.specs.Prelude.{◌≡◌};
+
 use crate::before::Masks;
 use queue::interface::Queue;
 use queue::refusal::Refusal;
@@ -67,6 +69,59 @@ fn ring_keeps_the_order(rt: HostRuntime) -> Result<(), Fail> {
 #[test]
 fn masks_keep_the_order(rt: HostRuntime) -> Result<(), Fail> {
     drill(&rt, &mut Masks::new())
+}
+
+// A queue that counts what the one below it refuses: a refused call leaves the list, and the rest of a queue is its own.
+#[derive(Drop)]
+struct Counting<Q> {
+    below: Q,
+    refused: u32,
+}
+
+impl<Q> Counting<Q> {
+    // Counts a call that was refused, and hands on what it answered.
+    fn count(&mut self, answer: Result<(), Refusal>) -> Result<(), Refusal>
+        ensures answer { result ≡ answer }
+        ensures below { self.new.below ≡ self.old.below }
+    {
+        if answer.is_err() {
+            self.refused = self.refused.saturating_add(1);
+        }
+        answer
+    }
+}
+
+impl<Q: Queue> Queue for Counting<Q> {
+    ghost waiting = { λ s. Q.waiting s.below };
+
+    fn join(&mut self, task: u32) -> Result<(), Refusal> {
+        let answer = self.below.join(task);
+        self.count(answer)
+    }
+
+    fn first(&self, task: u32) -> Result<bool, Refusal> {
+        self.below.first(task)
+    }
+
+    fn quit(&mut self, task: u32) -> Result<(), Refusal> {
+        let answer = self.below.quit(task);
+        self.count(answer)
+    }
+
+    fn length(&self) -> u32 {
+        self.below.length()
+    }
+}
+
+#[test]
+fn a_queue_may_count_its_refusals(rt: HostRuntime) -> Result<(), Fail> {
+    let mut queue = Counting {
+        below: Ring::new(),
+        refused: 0,
+    };
+    drill(&rt, &mut queue)?;
+    assert_eq!(rt; queue.refused, 6);
+    Ok(())
 }
 
 #[test]
