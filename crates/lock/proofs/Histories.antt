@@ -1,5 +1,5 @@
 -- What the calls made say of a task is what its record says: its pass, its changes, its attempts and what they cost.
-use Rattle.std.proofs.Common.{◌≡◌, ℕ, ◌+◌, ◌-◌, ◌<◌, ◌≤◌, ◌≢◌, ◌⊎◌, true, cond, min, ◌&&◌, eqb, ltb, List, [], ◌∷◌, length, get_or, set, Some, None, Option, sym, refl, ap, ◌∙◌, subst, inl, inr, arith}
+use Rattle.std.proofs.Common.{◌≡◌, ℕ, ◌+◌, ◌-◌, ◌<◌, ◌≤◌, ◌≢◌, ◌⊎◌, true, false, cond, min, ◌&&◌, eqb, ltb, List, [], ◌∷◌, length, get_or, set, Some, None, Option, sym, refl, ap, ◌∙◌, subst, inl, inr, arith}
 use Rattle.std.proofs.lemmas.Bool.{cases_eq, eq-eqb, false≢true, ltb-true, ne_eqb}
 use Rattle.std.proofs.lemmas.List.{get_or-set_same, get_or-set_other, length-set}
 use Rattle.memory.specs.Calls.{Doing}
@@ -58,6 +58,7 @@ record AnswerSays (c : Call) (s : State) (a : Answer) (z : State) : Type 0 where
   still : (cost share : ℕ) → cost_after cost share c ≡ cost
   needs : NeedsIn s c
   answers : was_obeyed a ≡ true → AnswersSo s.number c a
+  refused : was_obeyed a ≡ false → z ≡ s
 
 abbrev Says : Call → State → Verdict → Type 0
 Says c s (refuse e) = Unit {0}
@@ -123,12 +124,12 @@ judged_says (take w t) s g =
     let v = at_once (hands w s.number t) (with_record s t (with_out r (Some w))) in
     asked_says (take w t) s (task_refusal s t) (asked free v) (λ there. asked_says (take w t) s free v (λ may.
     let k = task_there s t there in
-    record { number = refl; rows = refl; says = λ u low. replaced (take w t) s u t (with_out r (Some w)) low k.0 k.1 refl refl; still = λ cost share. refl; needs = (k.0, k.1, takes (right_of r.track) r.out w may); answers = λ o. refl }))
+    record { number = refl; rows = refl; says = λ u low. replaced (take w t) s u t (with_out r (Some w)) low k.0 k.1 refl refl; still = λ cost share. refl; needs = (k.0, k.1, takes (right_of r.track) r.out w may); answers = λ o. refl; refused = λ o. absurd (false≢true (sym o)) }))
 judged_says (lay_back w k t) s g =
     let r = record_of s t in
     asked_says (lay_back w k t) s (pass_refusal s w k t) (at_once done (with_record s t (with_out r None))) (λ out.
     let p = pass_there s w k t g out in
-    record { number = refl; rows = refl; says = λ u low. replaced (lay_back w k t) s u t (with_out r None) low p.low p.high refl refl; still = λ cost share. refl; needs = (p.low, p.high, shown s w k t out); answers = λ o. refl })
+    record { number = refl; rows = refl; says = λ u low. replaced (lay_back w k t) s u t (with_out r None) low p.low p.high refl refl; still = λ cost share. refl; needs = (p.low, p.high, shown s w k t out); answers = λ o. refl; refused = λ o. absurd (false≢true (sym o)) })
 judged_says (upgrade k t) s g =
     let r = record_of s t in
     let v = line t (upgrading r) in
@@ -153,13 +154,13 @@ judged_says (read w k t row) s g =
     let v = at_once a s in
     asked_says (read w k t row) s (pass_refusal s w k t) (asked (row_refusal row (length s.table)) v) (λ out. asked_says (read w k t row) s (row_refusal row (length s.table)) v (λ is.
     let p = pass_there s w k t g out in
-    record { number = refl; rows = refl; says = λ u low. cond_same _ _; still = λ cost share. refl; needs = (p.low, p.high, (shown s w k t out, in_rows row (length s.table) is)); answers = told_row (get_or s.table row 0) }))
+    record { number = refl; rows = refl; says = λ u low. cond_same _ _; still = λ cost share. refl; needs = (p.low, p.high, (shown s w k t out, in_rows row (length s.table) is)); answers = told_row (get_or s.table row 0); refused = λ o. refl }))
 judged_says (put k t row n) s g =
     let v = at_once done (with_row s row n) in
     asked_says (put k t row n) s (pass_refusal s Writing k t) (asked (row_refusal row (length s.table)) (asked (thickness_refusal n) v)) (λ out.
     asked_says (put k t row n) s (row_refusal row (length s.table)) (asked (thickness_refusal n) v) (λ is. asked_says (put k t row n) s (thickness_refusal n) v (λ fits.
     let p = pass_there s Writing k t g out in
-    record { number = refl; rows = length-set s.table row n; says = λ u low. cond_same _ _; still = λ cost share. refl; needs = (p.low, p.high, (shown s Writing k t out, in_rows row (length s.table) is, (is_thickness n fits).0, (is_thickness n fits).1)); answers = λ o. refl })))
+    record { number = refl; rows = length-set s.table row n; says = λ u low. cond_same _ _; still = λ cost share. refl; needs = (p.low, p.high, (shown s Writing k t out, in_rows row (length s.table) is, (is_thickness n fits).0, (is_thickness n fits).1)); answers = λ o. refl; refused = λ o. absurd (false≢true (sym o)) })))
 
 -- What a call that was carried out so leaves.
 
@@ -281,6 +282,15 @@ module _ {M : Type 0} (does : Doing M) (limit : ℕ) where
   charged_account c s z m n a g h =
       let (share, tells, cost) = carried_costs c (judge c s) s z m n a g (meant c s g.lawful) (judged_says c s g.lawful) h in
       (share, tells, λ t low. (cost t low, (call_left c s z m n a g h).ends t low))
+
+  carried_refused : (c : Call) (v : Verdict) (s z : State) (m n : M) (a : Answer) → Says c s v → Obeyed v s a z → Carried does limit v s m a z n → was_obeyed a ≡ false → (z ≡ s) × (n ≡ m)
+  carried_refused c (refuse e) s z m n a k h (share, shares, x, y) o = (y, shares.1)
+  carried_refused c (line u r) s z m n a k h (share, shares, x, y) o = absurd (false≢true (sym o ∙ ap was_obeyed h.0))
+  carried_refused c (at_once b w) s z m n a k h (share, shares, x, y) o = (y ∙ k.refused (sym (ap was_obeyed x) ∙ o), shares.1)
+
+  -- a refused call leaves all as it was
+  pub refused : (c : Call) (s z : State) (m n : M) (a : Answer) → Able limit s → Calls does limit c s m a z n → was_obeyed a ≡ false → (z ≡ s) × (n ≡ m)
+  refused c s z m n a g h o = carried_refused c (judge c s) s z m n a (judged_says c s g.lawful) (call_kept does limit c s z m n a g h).obeyed h o
 
   -- A run from a state whose records have no history yet.
   module _ (s : State) (first : (t : ℕ) → told (record_of s t) ≡ nothing_yet) (able : Able limit s) (P : State → Type 0) (es : List Made) (z : State) (m n : M) (run : RunWhile does limit P es s m z n) where

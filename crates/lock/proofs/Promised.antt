@@ -21,7 +21,7 @@ use Rattle.lock.specs.Promises.{Promised, Starts}
 use Rattle.lock.specs.Runs.{Made, Run}
 use Rattle.lock.proofs.Decided.{decided}
 use Rattle.lock.proofs.Facts.{OneTask, TwoTasks, seen, seen_cells}
-use Rattle.lock.proofs.Histories.{charged_account, counts, granted, may_read, passes}
+use Rattle.lock.proofs.Histories.{charged_account, counts, granted, may_read, passes, refused}
 use Rattle.lock.proofs.Holds.{Holds, at}
 use Rattle.lock.proofs.Judged.{Lawful, pass_there}
 use Rattle.lock.proofs.Measured.{reads}
@@ -62,6 +62,7 @@ module _ {M : Type 0} (does : Doing M) (limit : ℕ) (s : State) (m : M) (roles 
         counted_accounts = λ es z n run t low. counts does limit s first g _ es z m n run t low;
         charged_accounts = λ es z n run c a y p call. charged_account does limit c z y n p a (able es z n run) call;
         own_refusals = λ es z n run c a y p call. (call_kept does limit c z y n p a (able es z n run) call).own;
+        refused_calls = λ es z n run c a y p call o. refused does limit c z y n p a (able es z n run) call o;
         one_line = λ es z n run c a y p call. call_did does limit c z y n p a (able es z n run) call;
         soundness = λ es z n run. let k = (able es z n run).lawful in (sound z k, (None, unbroken z k, refl));
         lines_decide = λ es z n run. decided does limit _ es s z m n g run ∙ ap (model_run es) free;

@@ -125,6 +125,10 @@ module _ {M : Type 0} (does : Doing M) (limit : ℕ) (s : State) (m : M) where
   abbrev pub OwnRefusals : Type 0
   OwnRefusals = AlwaysNext (λ es z n c a y p. IsOwn a)
 
+  -- Refused calls: they leave the state and the memory as they were.
+  abbrev pub RefusedCalls : Type 0
+  RefusedCalls = AlwaysNext (λ es z n c a y p. was_obeyed a ≡ false → (y ≡ z) × (p ≡ n))
+
   -- One line: an obeyed begin, advance, upgrade, downgrade or leave does the one line that its task's place and standing say; any other
   -- call, and any refused one, does none.
   abbrev pub OneLine : Type 0
@@ -160,6 +164,7 @@ module _ {M : Type 0} (does : Doing M) (limit : ℕ) (s : State) (m : M) where
     pub counted_accounts : CountedAccounts
     pub charged_accounts : ChargedAccounts
     pub own_refusals : OwnRefusals
+    pub refused_calls : RefusedCalls
     pub one_line : OneLine
     pub soundness : Soundness
     pub lines_decide : LinesDecide
