@@ -1,8 +1,9 @@
 -- How a lock is opened: its questions, what task 1 writes, and the state then.
-use Rattle.std.specs.Prelude.{◌≡◌, ℕ, Bool, true, not, ◌&&◌, List, [], ◌∷◌, map, length, Some, None, Ok, Err, Option, Result, ◌==◌, nat_le}
+use Rattle.std.specs.Prelude.{◌≡◌, ℕ, Bool, true, cond, not, ◌&&◌, List, [], ◌∷◌, map, length, Some, None, Ok, Err, Option, Result, ◌==◌, nat_le}
 use Rattle.memory.specs.declared.operation.Operation.{Operation}
 use Rattle.memory.specs.declared.operation.Operation.TheVariants.{Write}
 use Rattle.memory.specs.Calls.{Doing}
+use Rattle.lines.specs.declared.place.Role.{Role as TaskRole}
 use Rattle.lines.specs.Roles.{is_role, role_of}
 use Rattle.lines.specs.Lines.{C, D, Gate, X, Permit, U, V}
 use Rattle.calls.specs.declared.refusal.Refusal.{Refusal}
@@ -12,6 +13,11 @@ use Rattle.calls.specs.Records.{fresh}
 use Rattle.calls.specs.States.{State}
 use Rattle.calls.specs.Questions.{ask}
 
+-- the role that a byte says, or why it is refused
+abbrev pub role_told : ℕ → Result TaskRole Refusal
+role_told b = cond (is_role b) (Ok (role_of b)) (Err Role)
+
+-- each byte is a role
 abbrev pub are_roles : List ℕ → Bool
 are_roles [] = true
 are_roles (b ∷ bs) = is_role b && are_roles bs

@@ -1,4 +1,4 @@
--- The published number of each refusal; its number tells the layer: 1 to 6 the memory and the queue, 10 to 32 the lock.
+-- The published number of each refusal: 1 to 4 of the memory; 1, 5 and 6 of the queue; 10 to 32 of the lock itself.
 use Rattle.std.specs.Prelude.{ℕ}
 use Rattle.memory.specs.Refusals.{refusal_number as memory_number}
 use Rattle.queue.specs.Refusals.{refusal_number as queue_number}

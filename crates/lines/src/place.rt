@@ -1,31 +1,12 @@
 // Where a task is: at rest, inside, or on its way with a next line.
 ghost use Rattle.std.specs.Prelude.{◌≡◌};
 ghost use Rattle.lines.specs.Numbers.{tenfold};
-ghost use Rattle.lines.specs.Roles.{role_told};
 
 // A task is a reader or a writer for good.
 #[derive(Clone, Copy, PartialEq, Eq, Debug)]
 pub enum Role {
     Reader,
     Writer,
-}
-
-// A byte that is no role.
-#[derive(Clone, Copy, PartialEq, Eq, Debug)]
-pub struct NoRole(pub u8);
-
-impl TryFrom<u8> for Role {
-    type Error = NoRole;
-
-    ghost try_from_gives = { λ byte told. told ≡ role_told byte };
-
-    fn try_from(byte: u8) -> Result<Role, NoRole> {
-        match byte {
-            b'R' => Ok(Role::Reader),
-            b'W' => Ok(Role::Writer),
-            _ => Err(NoRole(byte)),
-        }
-    }
 }
 
 // How a task inside stands.

@@ -1,4 +1,5 @@
 pub mod Answers
 pub mod Digits
 pub mod Listing
+pub mod Refusals
 pub mod Written

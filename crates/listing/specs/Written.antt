@@ -1,5 +1,7 @@
 -- Bytes written at the start of a buffer.
-use Rattle.std.specs.Prelude.{◌≡◌, ℕ, ◌+◌, ◌<◌, ◌≤◌, List, ◌++◌, length, drop, Some, None, Option}
+use Rattle.std.specs.Prelude.{◌≡◌, ℕ, ◌+◌, ◌<◌, ◌≤◌, List, ◌++◌, length, drop, Ok, Err, Result}
+use Rattle.listing.specs.declared.refusal.Refusal.{Refusal}
+use Rattle.listing.specs.declared.refusal.Refusal.TheVariants.{Room}
 
 -- the buffer d with bs at its start, and else as it was
 abbrev pub laid : List ℕ → List ℕ → List ℕ
@@ -12,9 +14,9 @@ pub record TookBytes (d bs : List ℕ) (m : ℕ) (o : List ℕ) : Type 0 where
   pub after : o ≡ laid d bs
 
 -- the same, or d has too little room, and stays as it was
-abbrev pub Put : List ℕ → List ℕ → Option ℕ → List ℕ → Type 0
-Put d bs None o = (length d < length bs) × (o ≡ d)
-Put d bs (Some m) o = TookBytes d bs m o
+abbrev pub Put : List ℕ → List ℕ → Result ℕ Refusal → List ℕ → Type 0
+Put d bs (Ok m) o = TookBytes d bs m o
+Put d bs (Err e) o = (length d < length bs) × (e ≡ Room) × (o ≡ d)
 
 -- o, which has taken m bytes, takes cs as well, and is then p, which has taken k
 pub record Takes (m : ℕ) (o cs : List ℕ) (k : ℕ) (p : List ℕ) : Type 0 where

@@ -4,6 +4,7 @@
 
 pub mod answer;
 mod digits;
+pub mod refusal;
 #[cfg(test)]
 mod tests;
 pub mod write;

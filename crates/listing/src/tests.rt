@@ -1,12 +1,13 @@
 // Lines as they are printed, and buffers that have just room enough or a byte too little.
 use crate::answer::{Answer, Place};
+use crate::refusal::Refusal;
 use crate::write::{put_answer, put_note};
 use std::process::Abort;
 use std::test::Fail;
 
 fn shows(rt: &impl Abort, number: u32, answer: Answer, line: &[u8]) -> Result<(), Fail> {
     let mut out = [b'.'; 64];
-    let count = put_answer(&mut out, number, answer).ok_or("no room")?;
+    let count = put_answer(&mut out, number, answer)?;
     assert!(rt; count < 64);
     assert_eq!(rt; &out[0..count], line);
     assert_eq!(rt; out[count], b'.');
@@ -71,28 +72,28 @@ fn digits(rt: HostRuntime) -> Result<(), Fail> {
 fn just_room_for_an_answer(rt: HostRuntime) {
     let mut out = [b'.'; 9];
     let moved = Answer::Moved(Place::At(17), 1);
-    assert_eq!(rt; put_answer(&mut out[..8], 3, moved), None);
+    assert_eq!(rt; put_answer(&mut out[..8], 3, moved), Err(Refusal::Room));
     assert_eq!(rt; &out[0..9], b".........".as_slice());
-    assert_eq!(rt; put_answer(&mut out, 13, Answer::Refused(1)), Some(8));
+    assert_eq!(rt; put_answer(&mut out, 13, Answer::Refused(1)), Ok(8));
     assert_eq!(rt; &out[0..9], b"13 no 1\n.".as_slice());
 }
 
 #[test]
 fn just_room(rt: HostRuntime) {
     let mut out = [b'.'; 10];
-    assert_eq!(rt; put_note(&mut out, 5, b"# rib 3"), Some(10));
+    assert_eq!(rt; put_note(&mut out, 5, b"# rib 3"), Ok(10));
     assert_eq!(rt; &out[0..10], b"5 # rib 3\n".as_slice());
-    assert_eq!(rt; put_note(&mut out, 6, b""), Some(3));
+    assert_eq!(rt; put_note(&mut out, 6, b""), Ok(3));
     assert_eq!(rt; &out[0..10], b"6 \n rib 3\n".as_slice());
 }
 
 #[test]
 fn too_little(rt: HostRuntime) {
     let mut out = [b'.'; 9];
-    assert_eq!(rt; put_note(&mut out, 5, b"# rib 3"), None);
+    assert_eq!(rt; put_note(&mut out, 5, b"# rib 3"), Err(Refusal::Room));
     assert_eq!(rt;
         put_answer(&mut out, 3, Answer::Moved(Place::At(17), 1)),
-        None
+        Err(Refusal::Room)
     );
     assert_eq!(rt; &out[0..9], b".........".as_slice());
 }

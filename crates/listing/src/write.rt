@@ -6,6 +6,7 @@ ghost use Rattle.listing.specs.Written.{Put, Takes, TookBytes};
 
 use crate::answer::Answer;
 use crate::digits::{put_byte, put_long, put_text, width};
+use crate::refusal::Refusal;
 
 // The number of a line and a space, where there is room for them.
 #[inline(always)]
@@ -17,32 +18,32 @@ fn put_front(out: &mut [u8], number: u32) -> usize
     put_byte(out, at, b' ')
 }
 
-// Writes what the line `number` of a listing begins with, and tells how many bytes it has, at most 11; nothing
-// where `out` has less room.
-pub fn put_heading(out: &mut [u8], number: u32) -> Option<usize>
+/// Writes what the line `number` of a listing begins with, and tells how many bytes it has, at most 11. Refused: 39,
+/// where `out` has less room.
+pub fn put_heading(out: &mut [u8], number: u32) -> Result<usize, Refusal>
     ensures line { Put out.old (heading number) result out.new }
     ensures short { length (heading number) ≤ 11 }
 {
     if out.len() <= width(number) {
-        return None;
+        return Err(Refusal::Room);
     }
-    Some(put_front(out, number))
+    Ok(put_front(out, number))
 }
 
-// Writes the line `number` of a listing, for a note, and tells how many bytes it
-// has, at most 12 more than the note; nothing where `out` has less room. (`out` and `number` come side
-// by side, here and in what calls this: the buffer is lent for one line, and a struct around both would hold the loan.)
+/// Writes the line `number` of a listing, for a note, and tells how many bytes it has, at most 12 more than the note.
+/// Refused: 39, where `out` has less room. (`out` and `number` come side by side, here and in what calls this: the
+/// buffer is lent for one line, and a struct around both would hold the loan.)
 #[inline(always)]
-pub fn put_note(out: &mut [u8], number: u32, text: &[u8]) -> Option<usize>
+pub fn put_note(out: &mut [u8], number: u32, text: &[u8]) -> Result<usize, Refusal>
     ensures line { Put out.old (noted number text.now) result out.new }
     ensures short { length (noted number text.now) ≤ 12 + length text.now }
 {
     if out.len() <= width(number) + 1 + text.len() {
-        return None;
+        return Err(Refusal::Room);
     }
     let at = put_front(out, number);
     let at = put_text(out, at, text);
-    Some(put_byte(out, at, b'\n'))
+    Ok(put_byte(out, at, b'\n'))
 }
 
 // The line of a call that gave `answer`, where there is room for any such line.
@@ -59,26 +60,26 @@ fn put_line(out: &mut [u8], number: u32, answer: Answer) -> usize
 
 // The same where there may be too little room: the line is put together apart, to see whether it fits.
 #[cold]
-fn put_tight(out: &mut [u8], number: u32, answer: Answer) -> Option<usize>
+fn put_tight(out: &mut [u8], number: u32, answer: Answer) -> Result<usize, Refusal>
     ensures line { Put out.old (shown number answer) result out.new }
     ensures short { length (shown number answer) ≤ 64 }
 {
     let mut line = [0; 64];
     let count = put_line(&mut line, number, answer);
     if out.len() < count {
-        return None;
+        return Err(Refusal::Room);
     }
-    Some(put_text(out, 0, &line[..count]))
+    Ok(put_text(out, 0, &line[..count]))
 }
 
-// As `put_note`, for a call that gave `answer`: a line of at most 64 bytes.
+/// As `put_note`, for a call that gave `answer`: a line of at most 64 bytes. Refused: 39.
 #[inline(always)]
-pub fn put_answer(out: &mut [u8], number: u32, answer: Answer) -> Option<usize>
+pub fn put_answer(out: &mut [u8], number: u32, answer: Answer) -> Result<usize, Refusal>
     ensures line { Put out.old (shown number answer) result out.new }
     ensures short { length (shown number answer) ≤ 64 }
 {
     if out.len() < 64 {
         return put_tight(out, number, answer);
     }
-    Some(put_line(out, number, answer))
+    Ok(put_line(out, number, answer))
 }

@@ -1,6 +1,6 @@
 // How a lock is made, closed, and how it is opened to its tasks.
 ghost use Rattle.std.specs.Prelude.{◌≡◌, ◌≤◌, true, map, length, IfOk, MatchResult};
-ghost use Rattle.calls.specs.Opening.{Wrote, enlisted, opening_writes};
+ghost use Rattle.calls.specs.Opening.{Wrote, enlisted, opening_writes, role_told};
 ghost use Rattle.std.specs.List.{list_all};
 ghost use Rattle.lines.specs.Roles.{is_role};
 ghost use Rattle.lock.specs.Answers.{Asked};
@@ -16,24 +16,35 @@ use memory::cells::{C, D, GATE, PERMIT, U, V, X};
 use memory::interface::Memory;
 use queue::interface::Queue;
 
+// The role that a byte says: R a reader, W a writer. Refused: 13.
+fn role(byte: u8) -> Result<Role, Refusal>
+    ensures { result ≡ role_told byte }
+{
+    match byte {
+        b'R' => Ok(Role::Reader),
+        b'W' => Ok(Role::Writer),
+        _ => Err(Refusal::Role),
+    }
+}
+
 fn is_role(byte: u8) -> bool
     ensures { result ≡ is_role byte }
 {
-    Role::try_from(byte).is_ok()
+    role(byte).is_ok()
 }
 
 // Whether each byte is a role, R or W.
 fn all_roles(roles: &[u8]) -> bool
     ensures { result ≡ list_all is_role roles.now }
 {
-    roles.iter().all(|role| is_role(*role))
+    roles.iter().all(|byte| is_role(*byte))
 }
 
 // The record of a task with this role that never began. A byte that is no role stands for a reader.
-fn enlist(role: u8) -> Record
-    ensures { result ≡ enlisted role }
+fn enlist(byte: u8) -> Record
+    ensures { result ≡ enlisted byte }
 {
-    Record::new(Role::try_from(role).unwrap_or(Role::Reader))
+    Record::new(role(byte).unwrap_or(Role::Reader))
 }
 
 impl Records {
@@ -43,8 +54,8 @@ impl Records {
         ensures { records_of self.new ≡ map enlisted roles.now }
     {
         // by index: over `iter_mut` the proof of what the array is afterwards did not close
-        for (i, role) in roles.iter().enumerate() {
-            self.all[i] = enlist(*role);
+        for (i, byte) in roles.iter().enumerate() {
+            self.all[i] = enlist(*byte);
         }
         self.count = roles.len() as u32;
     }

@@ -1,8 +1,9 @@
 -- The bytes of a line behind those that are held, and what of them is written.
-use Rattle.std.proofs.Common.{◌≡◌, ℕ, ◌+◌, ◌-◌, ◌≤◌, List, [], ◌∷◌, ◌++◌, length, take, drop, set, Some, None, Option, sym, refl, ap, ◌∙◌, subst, arith, length-append, length-take-le}
+use Rattle.std.proofs.Common.{◌≡◌, ℕ, ◌+◌, ◌-◌, ◌≤◌, List, [], ◌∷◌, ◌++◌, length, take, drop, set, Some, None, Ok, Option, Result, sym, refl, ap, ◌∙◌, subst, arith, length-append, length-take-le}
 use Rattle.std.proofs.lemmas.List.{append-nil, append_assoc, take-append-drop, take_at, take_rest}
 use Rattle.std.proofs.Math.Seq.{take-add}
 use Rattle.std.specs.Io.KnownBytes.{Appends, Keeps}
+use Rattle.listing.specs.declared.refusal.Refusal.{Refusal}
 use Rattle.listing.specs.Answers.{newline}
 use Rattle.listing.specs.Listing.{heading, noted}
 use Rattle.listing.specs.Written.{Put, TookBytes}
@@ -35,7 +36,7 @@ held_more buffer bs d o behind filled count fits t =
     ∙ take_at (held ++ bs) (drop (length bs) d ++ behind) (filled + count) (omega (arith, length-append held bs, length-take-le filled buffer fits, t.count))
 
 -- the heading of a line, put behind the first `filled`
-pub held_heading : (buffer d o behind : List ℕ) (filled count n : ℕ) (r : Option ℕ) → r ≡ Some count → Put d (heading n) r o → filled ≤ length buffer → take (filled + count) (take filled buffer ++ (o ++ behind)) ≡ take filled buffer ++ heading n
+pub held_heading : (buffer d o behind : List ℕ) (filled count n : ℕ) (r : Result ℕ Refusal) → r ≡ Ok count → Put d (heading n) r o → filled ≤ length buffer → take (filled + count) (take filled buffer ++ (o ++ behind)) ≡ take filled buffer ++ heading n
 held_heading buffer d o behind filled count n r is put fits = held_more buffer (heading n) d o behind filled count fits (subst (λ r. Put d (heading n) r o) is put)
 
 -- what is held with the heading of a line, and the rest of a note's line

@@ -4,18 +4,20 @@ use Rattle.calls.specs.declared.refusal.Refusal.{Refusal as LockRefusal}
 use Rattle.memory.specs.declared.interface.Memory.{Ghosts as MemoryGhosts}
 use Rattle.queue.specs.declared.interface.Queue.{Ghosts as QueueGhosts}
 use Rattle.script.specs.declared.refusal.Refusal.{Refusal as LineRefusal}
-use Rattle.script.specs.declared.refusal.Refusal.TheVariants.{Room, Length}
+use Rattle.script.specs.declared.refusal.Refusal.TheVariants.{Length}
 use Rattle.script.specs.Calls.{Ask, parse}
 use Rattle.script.specs.Cuts.{lines}
 use Rattle.script.specs.Reading.{to_come}
 use Rattle.listing.specs.declared.answer.Answer.{Answer}
 use Rattle.listing.specs.declared.answer.Answer.TheVariants.{Refused}
+use Rattle.listing.specs.declared.refusal.Refusal.{Refusal as ListingRefusal}
+use Rattle.listing.specs.declared.refusal.Refusal.TheVariants.{Room}
 use Rattle.listing.specs.Listing.{shown, noted}
 use Rattle.listing.specs.Written.{Put, TookBytes}
 use Rattle.schedule.specs.declared.desk.Desk.{Desk}
 use Rattle.schedule.specs.declared.schedule.Schedule.{Schedule}
 use Rattle.schedule.specs.declared.refusal.Refusal.{Refusal}
-use Rattle.schedule.specs.declared.refusal.Refusal.TheVariants.{Line}
+use Rattle.schedule.specs.declared.refusal.Refusal.TheVariants.{Line, Listing}
 use Rattle.schedule.specs.Refusals.{refusal_number}
 use Rattle.schedule.specs.Desks.{DeskTells}
 use Rattle.schedule.specs.Replies.{Heard, nothing, noting, answering, Obeyed}
@@ -40,7 +42,7 @@ abbrev pub tells_of : Result Heard Refusal → Answer → Type 0
 tells_of r a = (n : ℕ) → reply_bytes n r ≡ shown n a
 
 -- a line with this text is obeyed, which leads from s to t, and the line n of the listing is put into the buffer d
-pub record ObeyedInto {S : Type 0} (does : S → Ask → Result Answer LockRefusal → S → Type 0) (s : S) (text : List ℕ) (n : ℕ) (d : List ℕ) (count : Option ℕ) (t : S) (o : List ℕ) : Type 0 where
+pub record ObeyedInto {S : Type 0} (does : S → Ask → Result Answer LockRefusal → S → Type 0) (s : S) (text : List ℕ) (n : ℕ) (d : List ℕ) (count : Result ℕ ListingRefusal) (t : S) (o : List ℕ) : Type 0 where
   pub reply : Result Heard Refusal
   pub obeyed : Obeyed does s (parse text) reply t
   pub bytes : Put d (reply_bytes n reply) count o
@@ -94,4 +96,4 @@ module _ {W P R K : Type 0} (w : MemoryGhosts W) (p : MemoryGhosts P) (r : Queue
   -- a line's bytes are asked for: the buffer d has the room, or all stays as it was
   abbrev pub Gives : Schedule W P R K → List ℕ → Result (Option ℕ) Refusal → Schedule W P R K → List ℕ → Type 0
   Gives s d (Ok given) t o = (65552 ≤ length d) × GivesLine s.untold s d given t o
-  Gives s d (Err e) t o = (length d < 65552) × (e ≡ Line Room) × (t ≡ s) × (o ≡ d)
+  Gives s d (Err e) t o = (length d < 65552) × (e ≡ Listing Room) × (t ≡ s) × (o ≡ d)

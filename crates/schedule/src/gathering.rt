@@ -83,11 +83,11 @@ impl Gathered {
         ensures stays { A.Way.over desk.new.chosen ≡ false → A.Way.fits desk.new.chosen }
     {
         match obey::<A, W, P, R, K>(&mut self.bytes[at..], number, desk, text) {
-            Some(more) => {
+            Ok(more) => {
                 self.count = at + more;
                 None
             }
-            None => Some(LongNote { number, text }),
+            Err(_) => Some(LongNote { number, text }),
         }
     }
 }

@@ -16,7 +16,11 @@ use script::call::Line;
 use script::parse::parse_line;
 
 // Writes the line `number` of the listing, for a line that was refused.
-pub(crate) fn put_refusal(out: &mut [u8], number: u32, why: Refusal) -> Option<usize>
+pub(crate) fn put_refusal(
+    out: &mut [u8],
+    number: u32,
+    why: Refusal,
+) -> Result<usize, listing::refusal::Refusal>
     ensures line { Put out.old (refusal_bytes number why) result out.new }
     ensures short { length (refusal_bytes number why) ≤ 64 }
 {
@@ -42,13 +46,13 @@ pub(crate) fn obey<A: Way, W: Memory, P: Memory, R: Queue, K: Queue>(
     number: u32,
     desk: &mut Desk<'_, '_, W, P, R, K>,
     text: &[u8],
-) -> Option<usize>
+) -> Result<usize, listing::refusal::Refusal>
     requires { A.Way.fits desk.old.chosen }
     ensures obeyed { ObeyedInto (DeskTells W.Memory P.Memory R.Queue K.Queue) desk.old text.now number out.old result desk.new out.new }
     ensures stays { A.Way.over desk.new.chosen ≡ false → A.Way.fits desk.new.chosen }
 {
     let answer = match parse_line(text) {
-        Ok(Line::Blank) => return Some(0),
+        Ok(Line::Blank) => return Ok(0),
         Ok(Line::Note(note)) => return put_note(out, number, note),
         Ok(Line::Call(call)) => answer_of(A::answer(desk, call)),
         Err(why) => Answer::Refused(Refusal::from(why).number()),

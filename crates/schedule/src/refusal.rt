@@ -1,12 +1,14 @@
-// Why a line of a schedule is refused: by the text of the line, or by the lock. A refusal of the lock goes up unchanged.
+// Why a line of a schedule is refused: by the text of the line, by the lock, or for want of room for its line of the listing.
+// A refusal of the layers below goes up unchanged.
 ghost use Rattle.std.specs.Prelude.{◌≡◌};
-ghost use Rattle.schedule.specs.declared.refusal.Refusal.TheVariants.{Line as by_line, Lock as by_lock};
+ghost use Rattle.schedule.specs.declared.refusal.Refusal.TheVariants.{Line as by_line, Lock as by_lock, Listing as by_listing};
 ghost use Rattle.schedule.specs.Refusals.{refusal_number};
 
 #[derive(Clone, Copy, PartialEq, Debug)]
 pub enum Refusal {
     Line(script::refusal::Refusal),
     Lock(calls::refusal::Refusal),
+    Listing(listing::refusal::Refusal),
 }
 
 impl Refusal {
@@ -17,6 +19,7 @@ impl Refusal {
         match self {
             Refusal::Line(why) => why.number(),
             Refusal::Lock(why) => why.number(),
+            Refusal::Listing(why) => why.number(),
         }
     }
 }
@@ -34,5 +37,13 @@ impl From<calls::refusal::Refusal> for Refusal {
 
     fn from(why: calls::refusal::Refusal) -> Refusal {
         Refusal::Lock(why)
+    }
+}
+
+impl From<listing::refusal::Refusal> for Refusal {
+    ghost from_gives = { λ e r. r ≡ by_listing e };
+
+    fn from(why: listing::refusal::Refusal) -> Refusal {
+        Refusal::Listing(why)
     }
 }

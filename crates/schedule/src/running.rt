@@ -44,16 +44,17 @@ impl<'s, 'b, 'a, W: Memory, P: Memory, R: Queue, K: Queue> Schedule<'s, 'b, 'a, 
         ensures listed { (input : List ℕ) (b : Board) → UnitMemory (limit_of Words) W.Memory → UnitMemory (limit_of Packed) P.Memory → Stands W.Memory P.Memory R.Queue K.Queue input self.old b → GivesListed W.Memory P.Memory R.Queue K.Queue input self.old out.old b result self.new out.new }
     {
         if out.len() < ROOM {
-            return Err(Refusal::Line(script::refusal::Refusal::Room));
+            return Err(Refusal::Listing(listing::refusal::Refusal::Room));
         }
         if let Some(why) = self.untold.take() {
-            return Ok(put_refusal(out, 0, Refusal::Line(why)));
+            return Ok(Some(put_refusal(out, 0, Refusal::Line(why))?));
         }
         let Some(text) = self.reader.next_line() else {
             return Ok(None);
         };
         let number = self.reader.number() as u32;
-        Ok(obey::<AnyDesk, W, P, R, K>(out, number, &mut self.desk, text))
+        let count = obey::<AnyDesk, W, P, R, K>(out, number, &mut self.desk, text)?;
+        Ok(Some(count))
     }
 
     // Why the whole input is refused, until a line has told it.

@@ -30,8 +30,7 @@ fn opening<'a>(mut fields: Fields<'a>) -> Result<(MemoryKind, QueueKind, &'a [u8
     let memory = MemoryKind::try_from(fields.next()?)?;
     let queue = QueueKind::try_from(fields.next()?)?;
     let roles = fields.next()?;
-    fields.end()?;
-    if roles.is_empty() {
+    if roles.is_empty() || fields.end().is_err() {
         return Err(Refusal::Fields);
     }
     Ok((memory, queue, roles))

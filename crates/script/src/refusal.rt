@@ -7,8 +7,6 @@ ghost use Rattle.script.specs.Refusals.{refusal_number};
 
 #[derive(Clone, Copy, PartialEq, Eq, Debug)]
 pub enum Refusal {
-    // has the output room for 65,552 bytes?
-    Room = 39,
     // is the letter at the front of the line known?
     Letter = 40,
     // are the fields right in number and kind?
