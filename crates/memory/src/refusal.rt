@@ -8,7 +8,7 @@ pub enum Refusal {
     Task = 1,
     // is there a cell of that number, 0 to 6?
     Cell = 2,
-    // is no number of the call above the limit?
+    // is no number for the cell above the limit?
     Number = 3,
     // does the step lead to a number from 0 to the limit?
     Sum = 4,
