@@ -11,13 +11,13 @@ pub enum Refusal {
     Shut,
     // is the lock closed?
     Opened,
-    // are there 1 to 64 roles?
+    // are the roles no fewer than 1 and no more than 64?
     Roles,
     // is each R or W?
     Role,
-    // is the limit at least 2 and at least the number of tasks?
+    // is the memory's limit no less than 2, and no less than there are tasks?
     Limit,
-    // is the ceiling at most 1,000?
+    // does the memory tell a ceiling of no more than 1,000?
     Ceiling,
     // is the queue empty?
     Queued,
@@ -37,15 +37,15 @@ pub enum Refusal {
     OtherRight,
     // has the pass this lock's number?
     OtherLock,
-    // is such a pass out to that task here?
+    // is a pass for its right out to its task here?
     NoPass,
     // had the attempt fewer than 1,000 upgrades?
     Upgrades,
-    // is there such a row?
+    // does the table have that row?
     NoRow,
     // is the thickness from 1 to 1,000,000?
     Thickness,
-    // is the stored number at most 1,000,000?
+    // is what the row holds no more than a thickness can be, 1,000,000?
     Stored,
 }
 

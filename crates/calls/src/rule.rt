@@ -14,7 +14,7 @@ pub enum Rule {
     Upgrade = 4,
     // U is 2 exactly when one task is upgraded
     CellU = 5,
-    // X is 0 while a normal writer is inside
+    // a normal writer is inside only while X is 0
     CellX = 6,
 }
 

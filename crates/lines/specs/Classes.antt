@@ -33,7 +33,7 @@ is_normal_writer Writer Normal = true
 is_normal_writer Writer Upgraded = false
 is_normal_writer Writer Downgraded = false
 
--- In the section are tasks inside, at 25.2, 25.3 or 27.2 to 27.5, and at 28.2 while downgrading: those that hold the lock.
+-- In the section: who holds the lock, inside or on the way from one standing to another.
 
 abbrev pub section_line : ℕ → Bool
 section_line n = between 252 253 n || (between 272 275 n || n == 1282)
@@ -46,7 +46,7 @@ section_at (Next l) = section_line (code l)
 abbrev pub in_section : Track → Bool
 in_section r = section_at r.place
 
--- Counted are readers at 16.1 to 22.2, tasks inside but the normal writer, and tasks at 25.2, 25.3, 27.2 to 27.5, 28.2 or 29.2.
+-- Counted: whom the lines have added to cell C and not yet taken off.
 
 abbrev pub counted_line : Role → ℕ → Bool
 counted_line o n = (is_reader o && between 161 222 n) || (between 252 253 n || (between 272 275 n || (n == 282 || (n == 1282 || n == 292))))

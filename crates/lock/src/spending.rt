@@ -34,7 +34,7 @@ impl<'a, M: Memory, Q: Queue> Lock<'a, M, Q> {
         self.do_line(ready)
     }
 
-    // Spends a reading pass on line 27.1. Refused, and the pass comes back: 10, 27, 28, 29.
+    // Does line 27.1 for a reading pass, which is spent. Refused, and the pass comes back: 10, 27, 28, 29.
     pub fn upgrade(&mut self, pass: ReadPass) -> Result<(), Kept<ReadPass>>
         ensures does { Does M.Memory Q.Queue (upgrade pass.lock pass.task) self.old (spent result) self.new }
         ensures back { HandedBack pass result }
@@ -43,7 +43,7 @@ impl<'a, M: Memory, Q: Queue> Lock<'a, M, Q> {
         pass.end_or_keep(made)
     }
 
-    // Spends a writing pass on line 25.1 or 28.1. Refused, and the pass comes back: 10, 27, 28.
+    // Does line 25.1 or 28.1 for a writing pass, which is spent. Refused, and the pass comes back: 10, 27, 28.
     pub fn downgrade(&mut self, pass: WritePass) -> Result<(), Kept<WritePass>>
         ensures does { Does M.Memory Q.Queue (downgrade pass.lock pass.task) self.old (spent result) self.new }
         ensures back { HandedBack pass result }

@@ -160,7 +160,7 @@ fn downgraded_writer(rt: HostRuntime) -> Result<(), Fail> {
     Ok(())
 }
 
-// Task 1 at 27.5 and reader 2 at 16.1.
+// Task 1 before 27.5, task 2 before 16.1.
 fn race(lock: &mut Lock<'_, Cache<Words>, Ring>) -> Result<(), Refusal> {
     lock.open(b"RR")?;
     enter(lock, 1)?;

@@ -49,15 +49,15 @@ pub trait Memory {
     fn read(&mut self, task: u32, cell: u32) -> Result<Reply<u32>, Refusal>
         ensures { Called limit cells top does self.old self.new task (reading cell) (slice_index (cells self.old) cell) result };
 
-    // Puts a number into a cell. Refused: 1, 2, 3.
+    // Makes this the cell's number. Refused: 1, 2, 3.
     fn write(&mut self, task: u32, cell: u32, number: u32) -> Result<Reply<()>, Refusal>
         ensures { Called limit cells top does self.old self.new task (writing cell number) tt result };
 
-    // Raises or lowers a cell by 1, and gives the earlier number. Refused: 1, 2, 4.
+    // Takes a cell one up or down, and tells what it held before. Refused: 1, 2, 4.
     fn add(&mut self, task: u32, cell: u32, step: Step) -> Result<Reply<u32>, Refusal>
         ensures { Called limit cells top does self.old self.new task (adding cell step) (slice_index (cells self.old) cell) result };
 
-    // Puts the new number and says yes if the cell holds the expected one; else says no. Refused: 1, 2, 3.
+    // Where the cell holds the expected number, gives it the new one and says yes; else says no. Refused: 1, 2, 3.
     fn swap(
         &mut self,
         task: u32,

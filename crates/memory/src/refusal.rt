@@ -4,13 +4,13 @@ ghost use Rattle.memory.specs.Refusals.{refusal_number};
 
 #[derive(Clone, Copy, PartialEq, Eq, Debug)]
 pub enum Refusal {
-    // is the task from 1 to 64?
+    // has the task a number from 1 to 64?
     Task = 1,
-    // is the cell from 0 to 6?
+    // is there a cell of that number, 0 to 6?
     Cell = 2,
-    // is each number given at most the limit?
+    // is no number for the cell above the limit?
     Number = 3,
-    // does the sum stay from 0 to the limit?
+    // does the step lead to a number from 0 to the limit?
     Sum = 4,
 }
 

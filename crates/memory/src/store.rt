@@ -19,7 +19,7 @@ pub trait Store {
     fn get(&self, cell: u32) -> Result<u32, Refusal>
         ensures { result ≡ cell_shown (numbers self.now) cell };
 
-    // Puts a number into a cell. Refused: 2, 3.
+    // Makes this the cell's number. Refused: 2, 3.
     fn set(&mut self, cell: u32, number: u32) -> Result<(), Refusal>
         ensures { Stored LIMIT numbers self.old cell number result self.new };
 

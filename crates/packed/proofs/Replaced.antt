@@ -16,8 +16,7 @@ at_each P a b c d e f g (suc (suc (suc (suc (suc zero))))) h = f
 at_each P a b c d e f g (suc (suc (suc (suc (suc (suc zero)))))) h = g
 at_each P a b c d e f g (suc (suc (suc (suc (suc (suc (suc i))))))) h = absurd (omega arith)
 
--- the field at i, by a shift and a mask
--- a field of a masked number with other bits put in
+-- a field of a masked number with other bits put in is that field, masked, with those bits put in
 parts : (bits mask added j : ℕ) → field (bit_or (bit_and bits mask) added) j ≡ bit_or (bit_and (field bits j) (field mask j)) (field added j)
 parts bits mask added j =
     ap (λ (x : ℕ). x % 16) (or_shr (bit_and bits mask) added (4 * j) ∙ ap (λ (x : ℕ). bit_or x (added / 2 ^ (4 * j))) (and_shr bits mask (4 * j)))

@@ -1,4 +1,4 @@
-// Packed: seven fields of four bits in one 32-bit number, the field of cell 0
+// Packed: one 32-bit number with four bits for each of seven cells, that of cell 0
 // lowest. A field is read by a shift and a mask, and replaced under a mask that
 // spares the other six.
 ghost use Rattle.std.specs.Prelude.{◌≡◌};

@@ -4,7 +4,7 @@ ghost use Rattle.queue.specs.Refusals.{refusal_number};
 
 #[derive(Clone, Copy, PartialEq, Eq, Debug)]
 pub enum Refusal {
-    // is the task from 1 to 64?
+    // has the task a number from 1 to 64?
     Task = 1,
     // to join: is the task not yet waiting?
     Waiting = 5,

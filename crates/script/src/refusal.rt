@@ -9,9 +9,9 @@ ghost use Rattle.script.specs.Refusals.{refusal_number};
 pub enum Refusal {
     // is the letter at the front of the line known?
     Letter = 40,
-    // are the fields right in number and kind?
+    // has the letter as many fields as it takes, each well formed?
     Fields = 41,
-    // is each number at most 4,294,967,295?
+    // does each number fit into 32 bits?
     Number = 42,
     // has the input at most 65,536 bytes?
     Length = 43,

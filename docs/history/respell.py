@@ -1,7 +1,7 @@
 #!/usr/bin/env python3
 """Spells the definitions and lemmas of this repository as the library spells its own.
 
-usage: respell.py [--list] [FOLDER]     (FOLDER holds crates/; the folder above this script's by default)
+usage: respell.py [--list] [FOLDER]     (FOLDER holds crates/; the repository of this script by default)
 
 A definition, a lemma, a field or a constructor is in snake case (`row-told` becomes `row_told`), a type or a fact in upper
 camel case (`Verdict-shares` becomes `VerdictShares`), and a prime is an apostrophe. The names are those that specs/ and proofs/
@@ -56,7 +56,7 @@ def bodies(text):
 def main(argv):
     show = "--list" in argv
     argv = [a for a in argv if a != "--list"]
-    root = argv[0] if argv else os.path.dirname(os.path.dirname(os.path.abspath(__file__)))
+    root = argv[0] if argv else os.path.dirname(os.path.dirname(os.path.dirname(os.path.abspath(__file__))))
     texts = {p: open(p, encoding="utf-8").read() for p in files(root)}
     declared, goals = set(), set()
     for path, text in texts.items():

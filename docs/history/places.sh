@@ -1,6 +1,6 @@
 #!/usr/bin/env bash
-# Lists the lines of src/ (tests left out) where an older form may stand, by point; docs/DESIGN-PASS.md
-# says which of them are places and what became of each. Run at the top of the repository.
+# Lists the lines of src/ (tests left out) where an older form may stand, by point; DESIGN-PASS.md beside this
+# script says which of them were places and what became of each. Run at the top of the repository.
 set -euo pipefail
 src() { find crates/*/src -name '*.rt' ! -name tests.rt | sort; }
 show() { echo "## $1"; shift; { grep -nE "$@" $(src) || true; } | tee /tmp/places.$$ ; echo "-- $(wc -l < /tmp/places.$$)"; }
