@@ -15,7 +15,7 @@ use queue::interface::Queue;
 use script::call::Line;
 use script::parse::parse_line;
 
-// Writes the line `number` of the listing, for a line that was refused.
+// Writes the line `number` of the listing, for a line that was refused. Where `out` has too little room: 39.
 pub(crate) fn put_refusal(
     out: &mut [u8],
     number: u32,
@@ -38,7 +38,8 @@ fn answer_of(told: Result<Answer, calls::refusal::Refusal>) -> Answer
     }
 }
 
-// Does what the line says, and writes the line `number` of the listing. A refusal of any layer goes up unchanged.
+// Does what the line says, and writes the line `number` of the listing, in which a refusal of any layer is told unchanged.
+// Where `out` has too little room for it: 39, though what the line says is done.
 // (What is answered is written in one place, whatever it is: the compiler takes in more of less.)
 #[inline(always)]
 pub(crate) fn obey<A: Way, W: Memory, P: Memory, R: Queue, K: Queue>(
