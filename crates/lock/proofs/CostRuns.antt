@@ -25,7 +25,7 @@ use Rattle.calls.specs.Records.{arrived, fresh, settled}
 use Rattle.calls.specs.States.{State, record_of}
 use Rattle.calls.specs.Steps.{Answer, Call, Calls, Carried, LineShares, Verdict, after_deed, at_once, judge, line, lined, refuse}
 use Rattle.lock.specs.Promises.{CostBound, Starts}
-use Rattle.lock.specs.History.{History}
+use Rattle.lock.specs.History.{History, history}
 use Rattle.lock.specs.Runs.{Made, RunWhile}
 use Rattle.lock.proofs.Allowed.{allowed}
 use Rattle.lock.specs.Counted.{masks_after, unit_share}
@@ -246,12 +246,16 @@ module _ {M : Type 0} (does : Doing M) (masks : M → List ℕ) (top : M → ℕ
     (law : (m n : M) (t : ℕ) (op : Operation) (share : ℕ) → does m t op share n → ChargedByUnits (Touch op) t (top m) (masks m) share (top n) (masks n)) (limit : ℕ) where
   -- where opening is obeyed the cost bound holds, for the ceiling that the memory has
   pub opened_cost : (o : Option Refusal) (s z : State) (m n : M) (roles : List ℕ) (r : Result (Unit {0}) Refusal) → open_refusal limit (top m) s roles ≡ o → length (masks m) ≡ 7 → Opens does o s m roles r z n →
-      IfOk r (λ _. CostBound does limit z n (top m))
+      IfOk r (λ _. CostBound does limit z n (top n))
   opened_cost None s z m n roles r none seven (ok, w, is) =
       let ceiling = top m in
-      let first = opened_bounded does masks top law limit ceiling z m n roles (starts limit ceiling s z roles none is) (able limit ceiling s z roles none is) refl seven w in
+      let starts = starts limit ceiling s z roles none is in
       let open_able = able limit ceiling s z roles none is in
-      subst (λ x. IfOk x (λ _. CostBound does limit z n (top m))) (sym ok) (λ es y p run t low.
-      let k = told_by_run does limit z (no_history z roles (starts limit ceiling s z roles none is)) open_able _ es y n p run t low in
-      subst (λ (h : History). (record_of y t).account.cost ≤ top m * (20 + 5 * h.upgrades + 2 * h.downgrades)) k (bound does masks top law limit ceiling y p (run_bounded does masks top law limit ceiling _ es z y n p first run) t))
-  opened_cost (Some e) s z m n roles r none seven (err, same, k) = subst (λ x. IfOk x (λ _. CostBound does limit z n (top m))) (sym err) tt
+      let first = opened_bounded does masks top law limit ceiling z m n roles starts open_able refl seven w in
+      let same : top n ≡ top m = wrote_top does masks top law limit ceiling opening_writes m n w in
+      subst (λ x. IfOk x (λ _. CostBound does limit z n (top n))) (sym ok) (λ es y p run t low.
+      let k = told_by_run does limit z (no_history z roles starts) open_able _ es y n p run t low in
+      let paid = bound does masks top law limit ceiling y p (run_bounded does masks top law limit ceiling _ es z y n p first run) t in
+      subst (λ c. (record_of y t).account.cost ≤ c * (20 + 5 * (history t es).upgrades + 2 * (history t es).downgrades)) (sym same)
+      (subst (λ (h : History). (record_of y t).account.cost ≤ top m * (20 + 5 * h.upgrades + 2 * h.downgrades)) k paid))
+  opened_cost (Some e) s z m n roles r none seven (err, same, k) = subst (λ x. IfOk x (λ _. CostBound does limit z n (top n))) (sym err) tt

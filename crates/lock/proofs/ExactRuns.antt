@@ -1,5 +1,5 @@
 -- Where each operation below the cache layer costs 1, runs cost what the counted calls say.
-use Rattle.std.proofs.Common.{◌≡◌, ℕ, List, [], ◌∷◌, map, IfOk, Some, None, Option, Result, sym, ap, ◌∙◌, subst}
+use Rattle.std.proofs.Common.{◌≡◌, ℕ, List, [], ◌∷◌, map, IfOk, Some, None, Ok, Err, Option, Result, sym, ap, ◌∙◌, subst}
 use Rattle.memory.specs.declared.operation.Operation.{Operation}
 use Rattle.memory.specs.Calls.{Doing}
 use Rattle.lines.specs.declared.deed.Deed.TheVariants.{Touch}
@@ -16,6 +16,11 @@ use Rattle.lock.proofs.Copies.{ExactUnits, deed_exact}
 use Rattle.lock.proofs.Meant.{Meant, meant}
 use Rattle.lock.proofs.Promised.{able}
 use Rattle.lock.proofs.Runs.{Able, call_able}
+
+-- what holds of a result under a premise
+pub under : {T E P : Type 0} (Q : Type 0) (r : Result T E) → (P → IfOk r (λ _. Q)) → IfOk r (λ _. P → Q)
+under Q (Ok x) f = f
+under Q (Err e) f = tt
 
 module _ {M : Type 0} (does : Doing M) (masks : M → List ℕ) (law : (m n : M) (t : ℕ) (op : Operation) (share : ℕ) → does m t op share n → ExactUnits (Touch op) t (masks m) share (masks n)) (limit : ℕ) where
   abbrev pub counted_of : State → M → Counted

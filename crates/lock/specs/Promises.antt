@@ -2,6 +2,8 @@
 use Rattle.std.specs.Prelude.{◌≡◌, ℕ, ◌+◌, ◌*◌, ◌≤◌, ◌⊎◌, true, false, cond, List, [], ◌∷◌, length, map, Some, None, Option, Ok, ◌≢◌, slice_index, ◌==◌}
 use Rattle.memory.specs.declared.interface.Memory.{Ghosts as MemoryGhosts}
 use Rattle.memory.specs.Calls.{Doing}
+use Rattle.cache.specs.declared.layer.Cache.{Cache}
+use Rattle.cache.specs.Layers.{cached}
 use Rattle.queue.specs.declared.interface.Queue.{Ghosts as QueueGhosts}
 use Rattle.lines.specs.declared.place.Place.TheVariants.{Rest}
 use Rattle.lines.specs.declared.place.Right.{Right}
@@ -21,7 +23,7 @@ use Rattle.calls.specs.Steps.{Answer, Call, Calls, done, gives, hands, no, read}
 use Rattle.lock.specs.declared.locks.Lock.{Lock}
 use Rattle.lock.specs.Charges.{Charges, Counts, TellsShare}
 use Rattle.lock.specs.Copying.{ChargesByCopies}
-use Rattle.lock.specs.Counted.{counted_run}
+use Rattle.lock.specs.Counted.{CostsOne, counted_run}
 use Rattle.lock.specs.History.{history}
 use Rattle.lock.specs.Model.{model_run, unpaid}
 use Rattle.lock.specs.Needs.{AnswersSo, IsDamaged, Needs}
@@ -174,14 +176,14 @@ module _ {M Q : Type 0} (mem : MemoryGhosts M) (que : QueueGhosts Q) (l : Lock M
   abbrev pub KeepsPromises : List ℕ → Type 0
   KeepsPromises roles = Promised mem.does mem.limit (view mem que l) l.memory roles
 
-  -- the cost bound, for this ceiling
-  abbrev pub KeepsCostBound : ℕ → Type 0
-  KeepsCostBound top = CostBound mem.does mem.limit (view mem que l) l.memory top
+  -- the cost bound, for the ceiling of the lock's memory
+  abbrev pub KeepsCostBound : Type 0
+  KeepsCostBound = CostBound mem.does mem.limit (view mem que l) l.memory (mem.top l.memory)
 
   -- the same where the memory charges by copies, whichever masks say who holds one
-  abbrev pub KeepsCostBoundByCopies : ℕ → Type 0
-  KeepsCostBoundByCopies top = (masks : M → List ℕ) → ChargesByCopies mem masks → KeepsCostBound top
+  abbrev pub KeepsCostBoundByCopies : Type 0
+  KeepsCostBoundByCopies = (masks : M → List ℕ) → ChargesByCopies mem masks → KeepsCostBound
 
-  -- exact costs, where these masks say who holds a copy
-  abbrev pub KeepsExactCosts : (M → List ℕ) → Type 0
-  KeepsExactCosts masks = ExactCosts mem.does mem.limit (view mem que l) l.memory masks
+-- exact costs of such a lock over the cache layer, where each operation below costs 1
+abbrev pub KeepsExactCosts : {B Q : Type 0} → MemoryGhosts B → QueueGhosts Q → Lock (Cache B) Q → Type 0
+KeepsExactCosts mem que l = CostsOne mem.does → ExactCosts (cached mem).does mem.limit (view (cached mem) que l) l.memory (λ m. m.copies.masks)

@@ -124,12 +124,14 @@ impl<'a, M: Memory, Q: Queue> Lock<'a, M, Q> {
         Ok(())
     }
 
-    // Opens the lock to tasks with these roles, a byte R or W for each, and promises what holds from then on. Refused: 11 to 16.
-    // (Bytes, since whoever calls may have any: those that are no roles are refused.)
+    /// Opens the lock to tasks with these roles, a byte R or W for each, and promises what holds from then on, after any
+    /// calls; the bound on what an attempt costs where the memory charges by copies, as the cache layer does. Refused: 11
+    /// to 16, in this order; a refusal leaves the lock as it was, closed or open. (Bytes, since whoever calls may have any:
+    /// those that are no roles are refused.)
     pub fn open(&mut self, roles: &[u8]) -> Result<(), Refusal>
         ensures opens { Opened M.Memory Q.Queue self.old roles.now result self.new }
         ensures promises { IfOk result (λ _. KeepsPromises M.Memory Q.Queue self.new roles.now) }
-        ensures cost_bound { IfOk result (λ _. KeepsCostBoundByCopies M.Memory Q.Queue self.new (M.Memory.top self.old.memory)) }
+        ensures cost_bound { IfOk result (λ _. KeepsCostBoundByCopies M.Memory Q.Queue self.new) }
     {
         self.ask_open(roles)?;
         set_cells(&mut self.memory)?;
