@@ -25,7 +25,7 @@ abbrev pub first_told : List ℕ → ℕ → Result Bool Refusal
 first_told ws t = cond (nat_le 1 t) (cond (nat_le t 64) (Ok (oldest ws t)) (Err Task)) (Err Task)
 
 -- a call takes the queue from s to t: either no question is answered no and the list is then ws,
--- or the first that is gives the refusal and the queue is as it was
+-- or the first that is gives the refusal and the list is as it was
 abbrev pub Called : {S : Type 0} → (S → List ℕ) → S → S → Option Refusal → List ℕ → Result (Unit {0}) Refusal → Type 0
 Called waiting s t refusal ws (Ok _) = (refusal ≡ None) × (waiting t ≡ ws)
 Called waiting s t refusal ws (Err e) = (refusal ≡ Some e) × (waiting t ≡ waiting s)
