@@ -9,5 +9,8 @@ pub mod Rows
 pub mod History
 pub mod Promises
 pub mod Cases
+pub mod AloneCases
+pub mod WaitingCases
+pub mod AnswerCases
 pub mod Answering
 pub mod Copying
