@@ -11,7 +11,8 @@ use memory::interface::Memory;
 use packed::word::Packed;
 use words::array::Words;
 
-// Cells, places and costs of the cases.
+/// The worked cases: runs of lock 1 over the cache layer on Words and on Packed, with cells, places and costs at their end, and in
+/// which each answer and each refusal of the lock occurs. Takes nothing, refuses nothing, does nothing.
 pub fn cases_hold()
     ensures alone { AloneCases ⟦<Words as Memory>⟧ × AloneCases ⟦<Packed as Memory>⟧ }
     ensures waiting { WaitingCases ⟦<Words as Memory>⟧ × WaitingCases ⟦<Packed as Memory>⟧ }
@@ -19,8 +20,9 @@ pub fn cases_hold()
     ensures opening { OpenCases }
 {}
 
-// A lock can be opened, and from each state each call has an answer and a next state: over each memory that does what it does not
-// refuse, over the cache layer on it, over Words and Packed, and over the cache layer on these.
+/// No statement over runs is empty: a lock can be opened, and from each state each call has an answer and a next state, and each list
+/// of calls a run. So it is over each memory that does what it does not refuse, over the cache layer on it, over Words and Packed,
+/// and over the cache layer on these. Takes nothing, refuses nothing, does nothing.
 pub fn calls_answer<M: Memory>()
     ensures any { Total M.Memory → Answering M.Memory }
     ensures layer { Total M.Memory → Answering (cached M.Memory) }
