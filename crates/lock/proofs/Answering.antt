@@ -1,29 +1,43 @@
--- Each call has an answer over a memory that does what it does not refuse.
-use Rattle.std.proofs.Common.{◌≡◌, ℕ, Some, None, Option, refl, subst, arith}
+-- A lock can be opened, each call has an answer and each list of calls a run, over a memory that does what it does not refuse.
+use Rattle.std.proofs.Common.{◌≡◌, ℕ, ◌≤◌, true, false, not, leb, List, [], ◌∷◌, length, get_or, set, Some, None, Option, refl, sym, ap, ◌∙◌, subst, arith}
+use Rattle.std.specs.Prelude.{MatchBool}
+use Rattle.std.proofs.lemmas.Bool.{le-leb, leb-true}
+use Rattle.std.proofs.lemmas.List.{length-set}
+use Rattle.sets.specs.Sets.{holds, joined}
 use Rattle.memory.specs.declared.interface.Memory.{Ghosts}
+use Rattle.memory.specs.declared.operation.Operation.{Operation}
+use Rattle.memory.specs.declared.operation.Operation.TheVariants.{Read, Write, Add, Swap}
 use Rattle.memory.specs.declared.refusal.Refusal.{Refusal as MemoryRefusal}
+use Rattle.memory.specs.Calls.{Kept}
 use Rattle.memory.specs.Operations.{after, refusal}
+use Rattle.memory.proofs.Unrefused.{OneSet, one_set}
+use Rattle.cache.specs.declared.layer.Cache.{Cache}
+use Rattle.cache.specs.Held.{cached_kept}
+use Rattle.cache.specs.Layers.{cached}
 use Rattle.lines.specs.declared.deed.Deed.{Deed}
 use Rattle.lines.specs.declared.deed.Deed.TheVariants.{Touch, Join, First, Quit, Nothing}
+use Rattle.lines.specs.declared.place.Right.TheVariants.{Reading, Writing}
+use Rattle.lines.specs.Deeds.{cells_after}
 use Rattle.lines.specs.Lines.{next_deed}
+use Rattle.lines.specs.Rights.{right_of}
 use Rattle.calls.specs.declared.record.Record.{Record}
 use Rattle.calls.specs.declared.refusal.Refusal.{Refusal}
-use Rattle.calls.specs.States.{State}
-use Rattle.calls.specs.Steps.{Answer, Carried, Shares, Verdict, after_deed, at_once, by_memory, deed_refusal, done, judge, line, no, refuse}
-use Rattle.std.proofs.Common.{true, false, List, length, get_or, set, ◌∙◌}
-use Rattle.std.proofs.lemmas.List.{length-set}
-use Rattle.std.specs.Prelude.{MatchBool}
-use Rattle.sets.specs.Sets.{holds, joined}
-use Rattle.memory.specs.declared.operation.Operation.TheVariants.{Read, Write, Add, Swap}
-use Rattle.cache.specs.declared.layer.Cache.{Cache}
-use Rattle.cache.specs.Layers.{cached}
-use Rattle.lock.specs.Answering.{EachAnswers, Total, numbers_alone}
+use Rattle.calls.specs.declared.refusal.Refusal.TheVariants.{Limit, Opened, Role as NotRole, Roles}
+use Rattle.calls.specs.Opening.{Wrote, are_roles, open_refusal, opened_to, opening_writes}
+use Rattle.calls.specs.Questions.{advance_refusal, begin_refusal, pass_refusal, row_refusal, take_refusal, task_refusal, thickness_refusal, upgrade_refusal}
+use Rattle.calls.specs.Records.{begun, downgrading, leaving, upgrading, with_out}
+use Rattle.calls.specs.States.{State, record_of, with_record, with_row}
+use Rattle.calls.specs.Steps.{Answer, Call, Calls, Carried, LineShares, Shares, Verdict, after_deed, asked, at_once, advance, begin, by_memory, deed_refusal, done, downgrade, hands, judge, lay_back, leave, line, lined, no, put, read, refuse, row_answer, take, upgrade}
+use Rattle.calls.proofs.Obeyed.{yes}
+use Rattle.lock.specs.Answering.{Answering, EachAnswers, EachOpens, EachRuns, Total}
+use Rattle.lock.proofs.Opened.{seven_written, wrote_cells}
+
+-- what goes up as no refusal was none below
+pub not_refused : (o : Option MemoryRefusal) → by_memory o ≡ None → o ≡ None
+not_refused None h = refl
+not_refused (Some e) h = absurd (let z : ◌≡◌ {A = ℕ} 0 1 = cc in omega arith)
 
 module _ {M : Type 0} (mem : Ghosts M) (total : Total mem) where
-  not_refused : (o : Option MemoryRefusal) → by_memory o ≡ None → o ≡ None
-  not_refused None h = refl
-  not_refused (Some e) h = absurd (let z : ◌≡◌ {A = ℕ} 0 1 = cc in omega arith)
-
   some_share : (d : Deed) (t : ℕ) (s : State) (m : M) → s.cells ≡ mem.cells m → deed_refusal mem.limit t d s.cells s.waiting ≡ None → (share : ℕ) × (n : M) × Shares mem.does m t d share n
   some_share (Touch op) t s m is free = total m t op (subst (λ cs. refusal mem.limit t op cs ≡ None) is (not_refused (refusal mem.limit t op s.cells) free))
   some_share Join t s m is free = (0, m, (refl, refl))
@@ -45,8 +59,100 @@ module _ {M : Type 0} (mem : Ghosts M) (total : Total mem) where
   pub each_answers : EachAnswers mem
   each_answers c s m is = answers (judge c s) s m is
 
-pub numbers_total : (limit : ℕ) → Total (numbers_alone limit)
-numbers_total limit ns t op free = (1, after op ns, (refl, refl))
+-- What the call and the opening leave: the cells of the state are those of the memory.
+
+-- an answer at once leaves the cells
+abbrev CellsStay : State → Verdict → Type 0
+CellsStay s (refuse e) = Unit {0}
+CellsStay s (line t r) = Unit {0}
+CellsStay s (at_once a z) = z.cells ≡ s.cells
+
+asked_stay : (s : State) (o : Option Refusal) (v : Verdict) → CellsStay s v → CellsStay s (asked o v)
+asked_stay s None v h = h
+asked_stay s (Some e) v h = tt
+
+judged_stay : (c : Call) (s : State) → CellsStay s (judge c s)
+judged_stay (begin t) s = asked_stay s (task_refusal s t) _ (asked_stay s (begin_refusal (record_of s t)) (line t (begun (record_of s t))) tt)
+judged_stay (advance t) s = asked_stay s (task_refusal s t) _ (asked_stay s (advance_refusal (record_of s t)) (line t (record_of s t)) tt)
+judged_stay (take w t) s = asked_stay s (task_refusal s t) _ (asked_stay s (take_refusal (right_of (record_of s t).track) (record_of s t).out w) (at_once (hands w s.number t) (with_record s t (with_out (record_of s t) (Some w)))) refl)
+judged_stay (lay_back w k t) s = asked_stay s (pass_refusal s w k t) (at_once done (with_record s t (with_out (record_of s t) None))) refl
+judged_stay (upgrade k t) s = asked_stay s (pass_refusal s Reading k t) _ (asked_stay s (upgrade_refusal (record_of s t)) (line t (upgrading (record_of s t))) tt)
+judged_stay (downgrade k t) s = asked_stay s (pass_refusal s Writing k t) (line t (downgrading (record_of s t))) tt
+judged_stay (leave w k t) s = asked_stay s (pass_refusal s w k t) (line t (leaving (record_of s t))) tt
+judged_stay (read w k t row) s = asked_stay s (pass_refusal s w k t) _ (asked_stay s (row_refusal row (length s.table)) (at_once (row_answer (get_or s.table row 0)) s) refl)
+judged_stay (put k t row n) s = asked_stay s (pass_refusal s Writing k t) _ (asked_stay s (row_refusal row (length s.table)) _ (asked_stay s (thickness_refusal n) (at_once done (with_row s row n)) refl))
+
+-- what every memory keeps
+abbrev pub EachKept : {M : Type 0} → Ghosts M → Type 0
+EachKept {M} mem = (s t : M) (task : ℕ) (op : Operation) (share : ℕ) → mem.does s task op share t → Kept mem.cells mem.top s op share t
+
+module _ {M : Type 0} (mem : Ghosts M) (law : EachKept mem) where
+  deed_cells : (d : Deed) (t : ℕ) (cs : List ℕ) (m n : M) (share : ℕ) → cs ≡ mem.cells m → Shares mem.does m t d share n → cells_after d cs ≡ mem.cells n
+  deed_cells (Touch op) t cs m n share is d = ap (after op) is ∙ sym (law m n t op share d).0
+  deed_cells Join t cs m n share is d = is ∙ ap mem.cells (sym d.1)
+  deed_cells First t cs m n share is d = is ∙ ap mem.cells (sym d.1)
+  deed_cells Quit t cs m n share is d = is ∙ ap mem.cells (sym d.1)
+  deed_cells Nothing t cs m n share is d = is ∙ ap mem.cells (sym d.1)
+
+  line_cells : (o : Option Refusal) (t : ℕ) (r : Record) (d : Deed) (s : State) (m n : M) (share : ℕ) → s.cells ≡ mem.cells m → LineShares mem.does o m t d share n → (lined o t r d share s).1.cells ≡ mem.cells n
+  line_cells None t r d s m n share is told = deed_cells d t s.cells m n share is told
+  line_cells (Some e) t r d s m n share is told = is ∙ ap mem.cells (sym told.1)
+
+  carried_cells : (v : Verdict) (s z : State) (m n : M) (a : Answer) → CellsStay s v → s.cells ≡ mem.cells m → Carried mem.does mem.limit v s m a z n → z.cells ≡ mem.cells n
+  carried_cells (refuse e) s z m n a stay is (share, told, x, y) = ap (λ (w : State). w.cells) y ∙ is ∙ ap mem.cells (sym told.1)
+  carried_cells (line t r) s z m n a stay is (share, told, x, y) = ap (λ (w : State). w.cells) y ∙ line_cells (deed_refusal mem.limit t (next_deed t r.track) s.cells s.waiting) t r (next_deed t r.track) s m n share is told
+  carried_cells (at_once b w) s z m n a stay is (share, told, x, y) = ap (λ (w : State). w.cells) y ∙ stay ∙ is ∙ ap mem.cells (sym told.1)
+
+  pub call_cells : (c : Call) (s z : State) (m n : M) (a : Answer) → s.cells ≡ mem.cells m → Calls mem.does mem.limit c s m a z n → z.cells ≡ mem.cells n
+  call_cells c s z m n a is call = carried_cells (judge c s) s z m n a (judged_stay c s) is call
+
+-- The list of calls, and the opening.
+
+-- operations of task 1 that are not refused, whatever the cells
+abbrev pub Free : ℕ → List Operation → Type 0
+Free limit [] = Unit {0}
+Free limit (op ∷ ops) = ((xs : List ℕ) → refusal limit 1 op xs ≡ None) × Free limit ops
+
+-- opening asks that the limit is at least 2
+asked_two : (limit ceiling : ℕ) (s : State) (roles : List ℕ) → open_refusal limit ceiling s roles ≡ None → 2 ≤ limit
+asked_two limit ceiling s roles none =
+    let shut = yes (not s.opened) Opened _ none in
+    let some = yes (leb 1 (length roles)) Roles _ shut.1 in
+    let few = yes (leb (length roles) 64) Roles _ some.1 in
+    let known = yes (are_roles roles) NotRole _ few.1 in
+    leb-true 2 limit (yes (leb 2 limit) Limit _ known.1).0
+
+opening_free : (limit : ℕ) → 2 ≤ limit → Free limit opening_writes
+opening_free limit two =
+    let none : leb 0 limit ≡ true = le-leb 0 limit (omega arith) in
+    let one : leb 1 limit ≡ true = le-leb 1 limit (omega arith) in
+    (λ xs. rw none refl, (λ xs. rw none refl, (λ xs. rw none refl, (λ xs. rw one refl, (λ xs. rw one refl, (λ xs. rw none refl, (λ xs. rw none refl, tt)))))))
+
+module _ {M : Type 0} (mem : Ghosts M) (total : Total mem) (law : EachKept mem) where
+  pub each_runs : EachRuns mem
+  each_runs [] s m is = ([], refl, s, m, (tt, refl, refl))
+  each_runs (c ∷ cs) s m is =
+      let (a, y, k, call) = each_answers mem total c s m is in
+      let (es, same, z, n, run) = each_runs cs y k (call_cells mem law c s y m k a is call) in
+      (record { call = c; answer = a } ∷ es, ap (λ ds. c ∷ ds) same, z, n, (tt, (y, k, call, run)))
+
+  pub wrote : (ops : List Operation) (m : M) → Free mem.limit ops → (n : M) × Wrote mem.does m ops n
+  wrote [] m free = (m, refl)
+  wrote (op ∷ ops) m free =
+      let (share, k, d) = total m 1 op (free.0 (mem.cells m)) in
+      let (n, w) = wrote ops k free.1 in
+      (n, (k, share, d, w))
+
+  pub each_opens : ((m : M) → length (mem.cells m) ≡ 7) → EachOpens mem
+  each_opens seven s m roles is none =
+      let (n, w) = wrote opening_writes m (opening_free mem.limit (asked_two mem.limit (mem.top m) s roles none)) in
+      let cells = wrote_cells mem.cells mem.top mem.does law opening_writes m n w ∙ seven_written (mem.cells m) (seven m) in
+      (opened_to roles s, n, (refl, w, refl), λ cs. each_runs cs (opened_to roles s) n (sym cells))
+
+  pub answering : ((m : M) → length (mem.cells m) ≡ 7) → Answering mem
+  answering seven = record { opens = each_opens seven; answers = each_answers mem total; runs = each_runs }
+
+-- The cache layer.
 
 abbrev with_masks : {B : Type 0} → B → (masks : List ℕ) → length masks ≡ 7 → Cache B
 with_masks b masks seven = record { below = b; copies = record { masks = masks; seven = seven } }
@@ -61,3 +167,24 @@ cached_total {B} mem total m t (Read c) free =
 cached_total mem total m t (Write c k) free = let (share, n, d) = total m.below t (Write c k) free in (share, with_masks n (set m.copies.masks c 0) (length-set m.copies.masks c 0 ∙ m.copies.seven), (d, refl))
 cached_total mem total m t (Add c k) free = let (share, n, d) = total m.below t (Add c k) free in (share, with_masks n (set m.copies.masks c 0) (length-set m.copies.masks c 0 ∙ m.copies.seven), (d, refl))
 cached_total mem total m t (Swap c e k) free = let (share, n, d) = total m.below t (Swap c e k) free in (share, with_masks n (set m.copies.masks c 0) (length-set m.copies.masks c 0 ∙ m.copies.seven), (d, refl))
+
+pub cached_law : {B : Type 0} (mem : Ghosts B) → EachKept mem → EachKept (cached mem)
+cached_law mem law s t task op share d = cached_kept mem.cells mem.top mem.does law s.below t.below s.copies.masks t.copies.masks task op share d
+
+-- Words and Packed: a store of seven numbers that takes what one operation makes of them.
+
+-- a store as a memory, each operation at a share of 1
+abbrev pub stored : {S : Type 0} → ℕ → (S → List ℕ) → Ghosts S
+stored limit numbers = record { LIMIT = limit; limit = limit; cells = numbers; top = λ s. 1; does = λ s t op share n. (numbers n ≡ after op (numbers s)) × (share ≡ 1) }
+
+module _ {S : Type 0} (limit : ℕ) (numbers : S → List ℕ) (within : (s : S) (k : ℕ) → get_or (numbers s) k 0 ≤ limit) (takes : (s : S) (ys : List ℕ) → OneSet limit (numbers s) ys → (n : S) × (numbers n ≡ ys)) where
+  pub stored_total : Total (stored limit numbers)
+  stored_total s t op free = let (n, is) = takes s _ (one_set limit t op (numbers s) (within s) free) in (1, n, (is, refl))
+
+  pub stored_law : EachKept (stored limit numbers)
+  stored_law s n t op share d = (d.0, omega (arith, d.1), refl)
+
+  pub stored_answers : ((s : S) → length (numbers s) ≡ 7) → Answering (stored limit numbers) × Answering (cached (stored limit numbers))
+  stored_answers seven =
+      let mem = stored limit numbers in
+      (answering mem stored_total stored_law seven, answering (cached mem) (cached_total mem stored_total) (cached_law mem stored_law) (λ s. seven s.below))

@@ -201,7 +201,7 @@ module _ {M : Type 0} (does : Doing M) (masks : M → List ℕ) (leaves : (m n :
   wiped [] ms = ms
   wiped (op ∷ ops) ms = wiped ops (masks_after (Touch op) 1 ms)
 
-  wrote_masks : (ops : List Operation) (m n : M) → Wrote does m ops n → masks n ≡ wiped ops (masks m)
+  pub wrote_masks : (ops : List Operation) (m n : M) → Wrote does m ops n → masks n ≡ wiped ops (masks m)
   wrote_masks [] m n w = ap masks w
   wrote_masks (op ∷ ops) m n (k, share, d, w) = wrote_masks ops k n w ∙ ap (wiped ops) (leaves m k 1 op share d)
 

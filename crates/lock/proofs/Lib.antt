@@ -23,3 +23,5 @@ pub mod Copies
 pub mod CostRuns
 pub mod ExactRuns
 pub mod Answering
+pub mod CaseRuns
+pub mod Computed

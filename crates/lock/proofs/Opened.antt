@@ -51,7 +51,7 @@ open_with rs (b ∷ bs) is some = ap (λ xs. ltb 0 (length xs)) is ∙ lt-ltb 0 
 
 -- the cells that the opening writes make of any seven
 
-abbrev afters : List Operation → List ℕ → List ℕ
+abbrev pub afters : List Operation → List ℕ → List ℕ
 afters [] xs = xs
 afters (op ∷ ops) xs = afters ops (after op xs)
 
@@ -67,11 +67,11 @@ seven_of (a ∷ b ∷ c ∷ d ∷ f ∷ g ∷ []) e = absurd (omega arith)
 seven_of (a ∷ b ∷ c ∷ d ∷ f ∷ g ∷ h ∷ []) e = refl
 seven_of (a ∷ b ∷ c ∷ d ∷ f ∷ g ∷ h ∷ k ∷ xs) e = absurd (omega arith)
 
-seven_written : (xs : List ℕ) → length xs ≡ 7 → afters opening_writes xs ≡ opening_cells
+pub seven_written : (xs : List ℕ) → length xs ≡ 7 → afters opening_writes xs ≡ opening_cells
 seven_written xs e = ap (afters opening_writes) (seven_of xs e)
 
 module _ {M : Type 0} (cells : M → List ℕ) (top : M → ℕ) (does : Doing M) (law : (s t : M) (task : ℕ) (op : Operation) (share : ℕ) → does s task op share t → Kept cells top s op share t) where
-  wrote_cells : (ops : List Operation) (m n : M) → Wrote does m ops n → cells n ≡ afters ops (cells m)
+  pub wrote_cells : (ops : List Operation) (m n : M) → Wrote does m ops n → cells n ≡ afters ops (cells m)
   wrote_cells [] m n e = ap cells e
   wrote_cells (op ∷ ops) m n (k, share, d, w) = wrote_cells ops k n w ∙ ap (afters ops) (law m k 1 op share d).0
 

@@ -13,4 +13,7 @@ pub mod Charges
 pub mod Copying
 pub mod Promises
 pub mod Cases
+pub mod AloneCases
+pub mod WaitingCases
+pub mod AnswerCases
 pub mod Answering

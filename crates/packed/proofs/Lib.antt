@@ -1,1 +1,2 @@
 pub mod Replaced
+pub mod Takes

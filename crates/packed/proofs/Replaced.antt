@@ -42,7 +42,7 @@ abbrev moved : ℕ → ℕ → ℕ
 moved n i = n * 2 ^ (4 * i) % 4294967296
 
 -- bits with the field at i replaced, as the code computes it
-abbrev replaced : ℕ → ℕ → ℕ → ℕ
+abbrev pub replaced : ℕ → ℕ → ℕ → ℕ
 replaced bits n i = bit_or (bit_and bits (spared i)) (moved n i)
 
 same_seven : {a b c d e f g a' b' c' d' e' f' g' : ℕ} → a ≡ a' → b ≡ b' → c ≡ c' → d ≡ d' → e ≡ e' → f ≡ f' → g ≡ g' → ◌≡◌ {A = List ℕ} (a ∷ b ∷ c ∷ d ∷ e ∷ f ∷ g ∷ []) (a' ∷ b' ∷ c' ∷ d' ∷ e' ∷ f' ∷ g' ∷ [])
