@@ -18,7 +18,7 @@ at_zero a n e z =
 within : (a : Answer) (n : ℕ) → a ≡ gives (Some n) → 1 ≤ n → n ≤ 1000000 → Reads n a
 within a n e low high =
     record {
-      thickness = λ v h. let k : v ≡ n = cc in (omega arith, omega arith, k);
+      thickness = λ v h. let k : v ≡ n = cc in record { some = omega arith; few = omega arith; same = k };
       measured = λ x y. e;
       unmeasured = (λ h. absurd (let k : ◌≡◌ {A = ℕ} 0 1 = cc in omega arith), λ h. absurd (omega arith));
       damaged = (λ h. absurd (subst (λ x. IsRefused x 32) e h), λ h. absurd (omega arith));

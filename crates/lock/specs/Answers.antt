@@ -26,11 +26,6 @@ abbrev pub spent : {P : Type 0} → Result (Unit {0}) (Kept P) → Answer
 spent (Ok _) = done
 spent (Err k) = no k.why
 
--- a refused call hands the pass back
-abbrev pub HandedBack : {P : Type 0} → P → Result (Unit {0}) (Kept P) → Type 0
-HandedBack p (Ok _) = Unit {0}
-HandedBack p (Err k) = k.pass ≡ p
-
 -- what a row answers
 abbrev pub row_told : Result (Option ℕ) Refusal → Answer
 row_told (Ok o) = gives o

@@ -21,10 +21,16 @@ abbrev pub last_put : ℕ → List Made → ℕ → ℕ
 last_put row [] v = v
 last_put row (e ∷ es) v = last_put row es (left_in row e.call e.answer v)
 
+-- v is a lawful thickness, and is the number n
+pub record IsMeasured (n v : ℕ) : Type 0 where
+  pub some : 1 ≤ v
+  pub few : v ≤ 1000000
+  pub same : v ≡ n
+
 -- What a read answers where n was last put: a thickness from 1 to 1000000, and then n itself; that nobody measured the rib, exactly
 -- at 0; and that the row is damaged, exactly above 1000000.
 pub record Reads (n : ℕ) (a : Answer) : Type 0 where
-  pub thickness : (v : ℕ) → a ≡ gives (Some v) → (1 ≤ v) × (v ≤ 1000000) × (v ≡ n)
+  pub thickness : (v : ℕ) → a ≡ gives (Some v) → IsMeasured n v
   pub measured : 1 ≤ n → n ≤ 1000000 → a ≡ gives (Some n)
   pub unmeasured : a ≡ gives None ↔ n ≡ 0
   pub damaged : IsRefused a 32 ↔ 1000000 < n

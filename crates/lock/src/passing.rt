@@ -1,10 +1,10 @@
 // Passes handed out and laid back.
-ghost use Rattle.std.specs.Prelude.{◌≡◌, ◌≤◌, true, None, Some, length};
+ghost use Rattle.std.specs.Prelude.{◌≡◌, ◌≤◌, true, None, Some, length, IfErr};
 ghost use Rattle.lines.specs.Rights.{right_of};
 ghost use Rattle.calls.specs.Questions.{out_for, pass_refusal, take_refusal};
 ghost use Rattle.calls.specs.Records.{with_out};
 ghost use Rattle.calls.specs.Steps.{lay_back, take};
-ghost use Rattle.lock.specs.Answers.{Asked, HandedBack, said, spent, taken};
+ghost use Rattle.lock.specs.Answers.{Asked, said, spent, taken};
 ghost use Rattle.lock.specs.Tasks.{Given};
 ghost use Rattle.lock.specs.View.{Does, record_at, records_of, view};
 
@@ -104,7 +104,7 @@ impl<'a, M: Memory, Q: Queue> Lock<'a, M, Q> {
     // Lays a pass back. Refused, and the pass comes back: 10, 27, 28.
     pub fn lay_back<R: Bears>(&mut self, pass: Pass<R>) -> Result<(), Kept<Pass<R>>>
         ensures does { Does M.Memory Q.Queue (lay_back R.right pass.lock pass.task) self.old (spent result) self.new }
-        ensures back { HandedBack pass result }
+        ensures back { IfErr result (λ kept. kept.pass ≡ pass) }
     {
         let made = self.lay_back_by(&pass);
         pass.end_or_keep(made)

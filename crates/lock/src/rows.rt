@@ -1,8 +1,9 @@
 // The rows of the table, read and put by those who show a pass.
-ghost use Rattle.std.specs.Prelude.{◌≡◌, ◌<◌};
+ghost use Rattle.std.specs.Prelude.{◌≡◌, ◌<◌, IfNone, IfOk, IfSome, slice_index};
 ghost use Rattle.calls.specs.Questions.{row_refusal, thickness_refusal};
 ghost use Rattle.calls.specs.Steps.{put, read, row_answer};
 ghost use Rattle.lock.specs.Answers.{Asked, row_told, said};
+ghost use Rattle.lock.specs.Rows.{IsMeasured};
 ghost use Rattle.lock.specs.View.{Does};
 
 use crate::locks::Lock;
@@ -14,7 +15,9 @@ use queue::interface::Queue;
 // A row's answer: a thickness, or nothing where nobody has measured the rib. Refused: 32.
 // (The table is the toolkit's own, and has 0 for none.)
 fn answer_of(number: u32) -> Result<Option<u32>, Refusal>
-    ensures { row_told result ≡ row_answer number }
+    ensures answers { row_told result ≡ row_answer number }
+    ensures measured { IfOk result (λ told. IfSome told (IsMeasured number)) }
+    ensures unmeasured { IfOk result (λ told. IfNone told (number ≡ 0)) }
 {
     if number == 0 {
         Ok(None)
@@ -46,9 +49,11 @@ fn ask_thickness(thickness: u32) -> Result<(), Refusal>
 }
 
 impl<'a, M: Memory, Q: Queue> Lock<'a, M, Q> {
-    // The thickness in a row, or nothing where nobody has measured the rib. Refused: 10, 27, 28, 30, 32.
+    /// The thickness in a row, or nothing where nobody has measured the rib: never 0. Refused: 10, 27, 28, 30, 32.
     pub fn read<R: Bears>(&self, pass: &Pass<R>, row: usize) -> Result<Option<u32>, Refusal>
-        ensures { Does M.Memory Q.Queue (read R.right pass.now.lock pass.now.task row) self.now (row_told result) self.now }
+        ensures measured { IfOk result (λ told. IfSome told (IsMeasured (slice_index self.now.table.now row))) }
+        ensures unmeasured { IfOk result (λ told. IfNone told (slice_index self.now.table.now row ≡ 0)) }
+        ensures does { Does M.Memory Q.Queue (read R.right pass.now.lock pass.now.task row) self.now (row_told result) self.now }
     {
         self.holder(pass)?;
         answer_of(*self.table.get(row).ok_or(Refusal::NoRow)?)
