@@ -1,5 +1,5 @@
 -- The cost bound: each task's account is backed by units, of which a place allows no more than Costs says.
-use Rattle.std.proofs.Common.{◌≡◌, ℕ, zero, suc, ◌+◌, ◌-◌, ◌*◌, ◌<◌, ◌≤◌, cond, eqb, ◌≢◌, List, [], ◌∷◌, length, get_or, set, IfOk, Some, None, Option, Result, sym, refl, ap, ◌∙◌, subst, inl, inr, arith}
+use Rattle.std.proofs.Common.{◌≡◌, ℕ, zero, suc, ◌+◌, ◌-◌, ◌*◌, ◌<◌, ◌≤◌, cond, eqb, ◌≢◌, List, [], ◌∷◌, length, get_or, map, set, IfOk, Some, None, Option, Result, sym, refl, ap, ◌∙◌, subst, inl, inr, arith}
 use Rattle.std.proofs.lemmas.Bool.{cases_eq, eq-eqb, ne_eqb}
 use Rattle.std.proofs.lemmas.List.{get_or-set_same, get_or-set_other}
 use Rattle.memory.specs.declared.operation.Operation.{Operation}
@@ -20,11 +20,11 @@ use Rattle.calls.specs.declared.account.Account.{Account}
 use Rattle.calls.specs.declared.record.Record.{Record}
 use Rattle.calls.specs.declared.refusal.Refusal.{Refusal}
 use Rattle.calls.specs.Accounts.{charged}
-use Rattle.calls.specs.Opening.{Opens, Wrote, open_refusal, opening_writes}
+use Rattle.calls.specs.Opening.{Opens, Wrote, enlisted, open_refusal, opening_writes}
 use Rattle.calls.specs.Records.{arrived, fresh, settled}
 use Rattle.calls.specs.States.{State, record_of}
 use Rattle.calls.specs.Steps.{Answer, Call, Calls, Carried, LineShares, Verdict, after_deed, at_once, judge, line, lined, refuse}
-use Rattle.lock.specs.Promises.{CostBound, Starts}
+use Rattle.lock.specs.Promises.{CostBound}
 use Rattle.lock.specs.History.{History, history}
 use Rattle.lock.specs.Runs.{Made, RunWhile}
 use Rattle.lock.proofs.Allowed.{allowed}
@@ -38,7 +38,7 @@ use Rattle.lock.proofs.Judged.{Due, Lawful, account_of_call}
 use Rattle.lock.proofs.Meant.{Meant, Quiet, meant}
 use Rattle.lock.proofs.Opened.{seven_of}
 use Rattle.lock.proofs.Histories.{told_by_run}
-use Rattle.lock.proofs.Promised.{able, first_record, no_history, starts}
+use Rattle.lock.proofs.Promised.{able, first_record, new_records, no_history}
 use Rattle.lock.proofs.Runs.{Able, call_able}
 
 -- An account is backed by units, at the ceiling each.
@@ -228,19 +228,19 @@ module _ {M : Type 0} (does : Doing M) (masks : M → List ℕ) (top : M → ℕ
   wrote_top [] m n w = ap top w
   wrote_top (op ∷ ops) m n (k, share, d, w) = wrote_top ops k n w ∙ (law m k 1 op share d).same_ceiling
 
-  first_costed : (s : State) (ms : List ℕ) (roles : List ℕ) → Starts roles s → ms ≡ zeros → Costed ceiling s ms
-  first_costed s ms roles starts e =
+  first_costed : (s : State) (ms : List ℕ) (roles : List ℕ) → s.records ≡ map enlisted roles → ms ≡ zeros → Costed ceiling s ms
+  first_costed s ms roles new e =
       record {
         seven = ap length e;
         units = λ j. record { cost = 0; u = 0; g = 0 };
-        paying = λ j. let (o, is) = first_record roles j in rw (starts.2, is) (first_paid (seen_cells s.cells s.waiting) j o (flag ms (suc j)));
-        backed = λ j. let (o, is) = first_record roles j in rw (starts.2, is) (record { cost = omega arith; u = refl; g = refl });
+        paying = λ j. let (o, is) = first_record roles j in rw (new, is) (first_paid (seen_cells s.cells s.waiting) j o (flag ms (suc j)));
+        backed = λ j. let (o, is) = first_record roles j in rw (new, is) (record { cost = omega arith; u = refl; g = refl });
       }
 
-  pub opened_bounded : (s : State) (m n : M) (roles : List ℕ) → Starts roles s → Able limit s → top m ≡ ceiling → length (masks m) ≡ 7 → Wrote does m opening_writes n → Bounded s n
-  opened_bounded s m n roles starts g e seven w =
+  pub opened_bounded : (s : State) (m n : M) (roles : List ℕ) → s.records ≡ map enlisted roles → Able limit s → top m ≡ ceiling → length (masks m) ≡ 7 → Wrote does m opening_writes n → Bounded s n
+  opened_bounded s m n roles new g e seven w =
       let none = opened_masks does masks (λ m n t op share d. (law m n t op share d).left) m n seven w in
-      record { able = g; costed = first_costed s (masks n) roles starts none; same = wrote_top opening_writes m n w ∙ e }
+      record { able = g; costed = first_costed s (masks n) roles new none; same = wrote_top opening_writes m n w ∙ e }
 
 module _ {M : Type 0} (does : Doing M) (masks : M → List ℕ) (top : M → ℕ)
     (law : (m n : M) (t : ℕ) (op : Operation) (share : ℕ) → does m t op share n → ChargedByUnits (Touch op) t (top m) (masks m) share (top n) (masks n)) (limit : ℕ) where
@@ -249,12 +249,12 @@ module _ {M : Type 0} (does : Doing M) (masks : M → List ℕ) (top : M → ℕ
       IfOk r (λ _. CostBound does limit z n (top n))
   opened_cost None s z m n roles r none seven (ok, w, is) =
       let ceiling = top m in
-      let starts = starts limit ceiling s z roles none is in
+      let new = new_records limit ceiling s z roles none is in
       let open_able = able limit ceiling s z roles none is in
-      let first = opened_bounded does masks top law limit ceiling z m n roles starts open_able refl seven w in
+      let first = opened_bounded does masks top law limit ceiling z m n roles new open_able refl seven w in
       let same : top n ≡ top m = wrote_top does masks top law limit ceiling opening_writes m n w in
       subst (λ x. IfOk x (λ _. CostBound does limit z n (top n))) (sym ok) (λ es y p run t low.
-      let k = told_by_run does limit z (no_history z roles starts) open_able _ es y n p run t low in
+      let k = told_by_run does limit z (no_history z roles new) open_able _ es y n p run t low in
       let paid = bound does masks top law limit ceiling y p (run_bounded does masks top law limit ceiling _ es z y n p first run) t in
       subst (λ c. (record_of y t).account.cost ≤ c * (20 + 5 * (history t es).upgrades + 2 * (history t es).downgrades)) (sym same)
       (subst (λ (h : History). (record_of y t).account.cost ≤ top m * (20 + 5 * h.upgrades + 2 * h.downgrades)) k paid))

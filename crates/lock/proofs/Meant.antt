@@ -11,11 +11,10 @@ use Rattle.calls.specs.declared.refusal.Refusal.TheVariants.{Finished, NoPass, N
 use Rattle.calls.specs.declared.record.Record.{Record}
 use Rattle.calls.specs.Questions.{advance_refusal, advance_refusal_at, ask, begin_refusal, begin_refusal_at, is_out, pass_refusal, row_refusal, take_refusal, task_refusal, thickness_refusal, upgrade_refusal}
 use Rattle.calls.specs.Records.{begun, downgrading, leaving, upgrading, with_out}
-use Rattle.calls.specs.Refusals.{refusal_number}
 use Rattle.calls.specs.States.{State, record_of, with_record, with_row}
 use Rattle.calls.specs.Steps.{Answer, Call, Verdict, advance, asked, at_once, begin, done, downgrade, hands, judge, lay_back, leave, line, put, read, refuse, row_answer, take, upgrade}
 use Rattle.calls.proofs.Sound.{back_in_order, out_in_order}
-use Rattle.lock.specs.Promises.{IsOwn}
+use Rattle.lock.specs.Promises.{IsOfLock, IsOwn}
 use Rattle.lock.proofs.Holds.{at}
 use Rattle.lock.proofs.Judged.{Due, Lawful, due_advance, due_begin, due_downgrade, due_leave, due_upgrade, pass_there}
 use Rattle.lock.proofs.Lasting.{SameTracks, each_same, pass_lawful, track_same}
@@ -30,7 +29,7 @@ pub record Quiet (s : State) (a : Answer) (z : State) : Type 0 where
   pub accounts : (i : ℕ) → (at z.records i).account ≡ (at s.records i).account
 
 abbrev pub Meant : State → Verdict → Type 0
-Meant s (refuse e) = 10 ≤ refusal_number e
+Meant s (refuse e) = IsOfLock e
 Meant s (line t r) = Due s t r
 Meant s (at_once a z) = Quiet s a z
 
@@ -38,9 +37,9 @@ Meant s (at_once a z) = Quiet s a z
 
 abbrev Own : Option Refusal → Type 0
 Own None = Unit {0}
-Own (Some e) = 10 ≤ refusal_number e
+Own (Some e) = IsOfLock e
 
-own_ask : (b : Bool) (e : Refusal) (o : Option Refusal) → 10 ≤ refusal_number e → Own o → Own (ask b e o)
+own_ask : (b : Bool) (e : Refusal) (o : Option Refusal) → IsOfLock e → Own o → Own (ask b e o)
 own_ask true e o h k = k
 own_ask false e o h k = h
 

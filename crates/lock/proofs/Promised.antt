@@ -1,15 +1,24 @@
 -- A lock just opened keeps every promise.
-use Rattle.std.proofs.Common.{◌≡◌, ℕ, zero, suc, ◌-◌, ◌≤◌, true, not, eqb, leb, List, [], ◌∷◌, length, get_or, map, None, sym, refl, ap, ◌∙◌, subst, arith}
-use Rattle.std.proofs.lemmas.Bool.{eqb-true, leb-true}
+use Rattle.std.proofs.Common.{◌≡◌, ℕ, zero, suc, ◌-◌, ◌<◌, ◌≤◌, ◌≢◌, ◌⊎◌, ◌↔◌, Bool, true, false, not, eqb, leb, List, [], ◌∷◌, length, get_or, map, ltb, IsOk, Some, None, Ok, Err, Option, Result, sym, refl, ap, ◌∙◌, subst, inl, inr, arith}
+use Rattle.std.proofs.lemmas.Bool.{and_from, and_parts, eqb-true, false≢true, le-leb, leb-true}
 use Rattle.memory.specs.Calls.{Doing}
 use Rattle.lines.specs.declared.place.Role.{Role}
 use Rattle.lines.specs.declared.place.Role.TheVariants.{Reader, Writer}
 use Rattle.lines.specs.Classes.{has_upgraded, is_counted}
 use Rattle.lines.specs.Lines.{at_rest}
-use Rattle.lines.specs.Roles.{role_of}
+use Rattle.lines.specs.Roles.{is_role, role_of}
+use Rattle.memory.specs.declared.interface.Memory.{Ghosts as MemoryGhosts}
+use Rattle.queue.specs.declared.interface.Queue.{Ghosts as QueueGhosts}
+use Rattle.calls.specs.declared.refusal.Refusal.{Refusal}
+use Rattle.lock.specs.declared.locks.Lock.{Lock}
+use Rattle.lock.specs.MayOpen.{MayOpen}
+use Rattle.lock.specs.View.{open_refused, records_of, view}
+use Rattle.lock.proofs.Recorded.{some_none}
 use Rattle.calls.specs.declared.refusal.Refusal.TheVariants.{Ceiling, Limit, Opened, Queued, Role as NotRole, Roles}
+use Rattle.calls.specs.declared.rule.Rule.{Rule}
+use Rattle.calls.specs.Rules.{rule_number}
 use Rattle.calls.specs.Census.{tasks_that}
-use Rattle.calls.specs.Opening.{are_roles, enlisted, open_refusal, opened_to, opening_cells}
+use Rattle.calls.specs.Opening.{Opens, are_roles, enlisted, open_refusal, opened_to, opening_cells}
 use Rattle.calls.specs.Records.{fresh, in_order}
 use Rattle.calls.specs.States.{State, record_of}
 use Rattle.calls.specs.Steps.{row_answer}
@@ -36,14 +45,18 @@ first_record [] i = (Reader, refl)
 first_record (b ∷ bs) zero = (role_of b, refl)
 first_record (b ∷ bs) (suc i) = first_record bs i
 
-pub no_history : (s : State) (roles : List ℕ) → Starts roles s → (t : ℕ) → told (record_of s t) ≡ nothing_yet
-no_history s roles starts t = let (o, is) = first_record roles (t - 1) in ap (λ rs. told (at rs (t - 1))) starts.2 ∙ ap told is
+pub no_history : (s : State) (roles : List ℕ) → s.records ≡ map enlisted roles → (t : ℕ) → told (record_of s t) ≡ nothing_yet
+no_history s roles new t = let (o, is) = first_record roles (t - 1) in ap (λ rs. told (at rs (t - 1))) new ∙ ap told is
 
-module _ {M : Type 0} (does : Doing M) (limit : ℕ) (s : State) (m : M) (roles : List ℕ) where
-  pub promised : Starts roles s → unpaid s ≡ s → Able limit s → Promised does limit s m roles
+-- each rule has a number
+numbered : (k : Rule) → rule_number k ≢ 0
+numbered k h = grind arith
+
+module _ {M : Type 0} (does : Doing M) (limit : ℕ) (s : State) (m : M) (number : ℕ) (rows roles : List ℕ) where
+  pub promised : Starts number rows roles s → unpaid s ≡ s → Able limit s → Promised does limit s m number rows roles
   promised starts free g =
       let able = λ (es : List Made) (z : State) (n : M) (run : Run does limit es s m z n). run_able does limit _ es s z m n g run in
-      let first = no_history s roles starts in
+      let first = no_history s roles starts.4 in
       record {
         starts = starts;
         exclusion = λ es z n run. (section_with_right z, λ t u low low' apart w. let k = (able es z n run).lawful in (excluded z t u k low low' apart w, no_right_beside z t u k low low' apart w));
@@ -64,7 +77,7 @@ module _ {M : Type 0} (does : Doing M) (limit : ℕ) (s : State) (m : M) (roles 
         own_refusals = λ es z n run c a y p call. (call_kept does limit c z y n p a (able es z n run) call).own;
         refused_calls = λ es z n run c a y p call o. refused does limit c z y n p a (able es z n run) call o;
         one_line = λ es z n run c a y p call. call_did does limit c z y n p a (able es z n run) call;
-        soundness = λ es z n run. let k = (able es z n run).lawful in (sound z k, (None, unbroken z k, refl));
+        soundness = λ es z n run. let k = (able es z n run).lawful in (sound z k, unbroken z k, numbered);
         lines_decide = λ es z n run. decided does limit _ es s z m n g run ∙ ap (model_run es) free;
       }
 
@@ -139,8 +152,12 @@ module _ (limit ceiling : ℕ) (s z : State) (roles : List ℕ) (none : open_ref
   starts_first : z ≡ first
   starts_first = is ∙ ap (λ ws. record { number = s.number; opened = true; cells = opening_cells; waiting = ws; records = map enlisted roles; table = s.table }) (asked limit ceiling s roles none).empty
 
-  pub starts : Starts roles z
-  starts = subst (Starts roles) (sym starts_first) (refl, refl, refl)
+  -- it was so before
+  pub starts : Starts s.number s.table roles z
+  starts = subst (Starts s.number s.table roles) (sym starts_first) (refl, refl, refl, refl, refl)
+
+  pub new_records : z.records ≡ map enlisted roles
+  new_records = starts.4
 
   pub able : Able limit z
   able =
@@ -151,5 +168,61 @@ module _ (limit ceiling : ℕ) (s z : State) (roles : List ℕ) (none : open_ref
   free : unpaid z ≡ z
   free = subst (λ (x : State). unpaid x ≡ x) (sym starts_first) (ap (λ rs. record { number = s.number; opened = true; cells = opening_cells; waiting = []; records = rs; table = s.table }) (first_free roles))
 
-  pub opened_promises : {M : Type 0} (does : Doing M) (m : M) → Promised does limit z m roles
-  opened_promises does m = promised does limit z m roles starts free able
+  pub opened_promises : {M : Type 0} (does : Doing M) (m : M) → Promised does limit z m s.number s.table roles
+  opened_promises does m = promised does limit z m s.number s.table roles starts free able
+
+-- When open is obeyed.
+
+-- each byte is a role's
+role_bytes : (roles : List ℕ) → are_roles roles ≡ true → (i : ℕ) → i < length roles → (get_or roles i 0 ≡ 82) ⊎ (get_or roles i 0 ≡ 87)
+role_bytes [] h i l = absurd (omega arith)
+role_bytes (b ∷ bs) h zero l = role_byte b (and_parts (is_role b) (are_roles bs) h).0
+  where
+    role_byte : (b : ℕ) → is_role b ≡ true → (b ≡ 82) ⊎ (b ≡ 87)
+    role_byte b h = grind arith
+role_bytes (b ∷ bs) h (suc i) l = role_bytes bs (and_parts (is_role b) (are_roles bs) h).1 i (omega arith)
+
+all_roles : (roles : List ℕ) → ((i : ℕ) → i < length roles → (get_or roles i 0 ≡ 82) ⊎ (get_or roles i 0 ≡ 87)) → are_roles roles ≡ true
+all_roles [] h = refl
+all_roles (b ∷ bs) h = and_from (is_role b) (are_roles bs) (a_role b (h 0 (omega arith))) (all_roles bs (λ i l. h (suc i) (omega arith)))
+  where
+    a_role : (b : ℕ) → (b ≡ 82) ⊎ (b ≡ 87) → is_role b ≡ true
+    a_role b (inl e) = ap is_role e
+    a_role b (inr e) = ap is_role e
+
+module _ {M Q : Type 0} (mem : MemoryGhosts M) (que : QueueGhosts Q) (l : Lock M Q) (roles : List ℕ) where
+  may_open : open_refused mem que l roles ≡ None → MayOpen mem que l roles
+  may_open none =
+      let n = length roles in
+      let rs = records_of l.records in
+      let q1 = yes (not (ltb 0 (length rs))) Opened _ none in
+      let q2 = yes (leb 1 n) Roles _ q1.1 in
+      let q3 = yes (leb n 64) Roles _ q2.1 in
+      let q4 = yes (are_roles roles) NotRole _ q3.1 in
+      let q5 = yes (leb 2 mem.limit) Limit _ q4.1 in
+      let q6 = yes (leb n mem.limit) Limit _ q5.1 in
+      let q7 = yes (leb (mem.top l.memory) 1000) Ceiling _ q6.1 in
+      let q8 = yes (eqb (length (que.waiting l.queue)) 0) Queued None q7.1 in
+      record {
+        closed = no_task (length rs) q1.0;
+        some = leb-true 1 n q2.0;
+        few = leb-true n 64 q3.0;
+        each = role_bytes roles q4.0;
+        two = leb-true 2 mem.limit q5.0;
+        fits = leb-true n mem.limit q6.0;
+        ceiling = leb-true (mem.top l.memory) 1000 q7.0;
+        empty = no_one_waits (que.waiting l.queue) (eqb-true (length (que.waiting l.queue)) 0 q8.0);
+      }
+    where
+      no_task : (n : ℕ) → not (ltb 0 n) ≡ true → n ≡ 0
+      no_task n h = grind arith
+
+  open_clear : MayOpen mem que l roles → open_refused mem que l roles ≡ None
+  open_clear may =
+      let n = length roles in
+      rw (may.closed, may.empty, le-leb 1 n may.some, le-leb n 64 may.few, all_roles roles may.each, le-leb 2 mem.limit may.two, le-leb n mem.limit may.fits, le-leb (mem.top l.memory) 1000 may.ceiling) refl
+
+  -- open is obeyed exactly where it has what it needs
+  pub opened_where : (o : Option Refusal) (z : State) (n : M) (r : Result (Unit {0}) Refusal) → open_refused mem que l roles ≡ o → Opens mem.does o (view mem que l) l.memory roles r z n → IsOk r ↔ MayOpen mem que l roles
+  opened_where None z n r none (ok, w, is) = (λ h. may_open none, λ h. subst IsOk (sym ok) refl)
+  opened_where (Some e) z n r some (err, same, k) = (λ h. absurd (false≢true (subst IsOk err h)), λ h. absurd (some_none e (sym some ∙ open_clear h)))

@@ -1,4 +1,5 @@
 pub mod View
+pub mod MayOpen
 pub mod Tasks
 pub mod Performed
 pub mod Answers

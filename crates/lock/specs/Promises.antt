@@ -13,6 +13,8 @@ use Rattle.lines.specs.declared.place.Standing.TheVariants.{Normal}
 use Rattle.lines.specs.Classes.{in_section}
 use Rattle.lines.specs.Rights.{right_of}
 use Rattle.calls.specs.declared.record.Record.{Record}
+use Rattle.calls.specs.declared.refusal.Refusal.{Refusal}
+use Rattle.calls.specs.declared.refusal.Refusal.TheVariants.{Memory, Queue}
 use Rattle.calls.specs.declared.rule.Rule.{Rule}
 use Rattle.calls.specs.Checks.{state_checked}
 use Rattle.calls.specs.Refusals.{refusal_number}
@@ -41,25 +43,32 @@ never_began b =
       out = None;
     }
 
--- the cells C, D, Gate, X, Permit, U, V of an opened lock, an empty queue, and tasks of these roles that never began
-abbrev pub Starts : List ℕ → State → Type 0
-Starts roles s = (s.cells ≡ 0 ∷ 0 ∷ 0 ∷ 1 ∷ 1 ∷ 0 ∷ 0 ∷ []) × (s.waiting ≡ []) × (s.records ≡ map never_began roles)
+-- the lock number and the rows that the lock had before, the cells C, D, Gate, X, Permit, U, V of an opened lock, an empty queue, and
+-- tasks of these roles that never began
+abbrev pub Starts : ℕ → List ℕ → List ℕ → State → Type 0
+Starts number rows roles s =
+    (s.number ≡ number)
+    × (s.table ≡ rows)
+    × (s.cells ≡ 0 ∷ 0 ∷ 0 ∷ 1 ∷ 1 ∷ 0 ∷ 0 ∷ [])
+    × (s.waiting ≡ [])
+    × (s.records ≡ map never_began roles)
 
 -- task t has the right w
 abbrev pub HasRight : State → ℕ → Right → Type 0
 HasRight z t w = right_of (record_of z t).track ≡ Some w
 
--- a refusal is one of the lock's own questions: those of the memory and the queue have the numbers 1 to 6
+-- a refusal of the lock itself, and not of the memory or the queue
+abbrev pub IsOfLock : Refusal → Type 0
+IsOfLock (Memory e) = ⊥
+IsOfLock (Queue e) = ⊥
+IsOfLock e = 10 ≤ refusal_number e
+
+-- where the call is refused, that is one of the lock's own questions: those of the memory and the queue have the numbers 1 to 6
 abbrev pub IsOwn : Answer → Type 0
 IsOwn done = Unit {0}
 IsOwn (hands w k t) = Unit {0}
 IsOwn (gives o) = Unit {0}
-IsOwn (no e) = 10 ≤ refusal_number e
-
--- the number that a check of the state tells: that of the first broken rule, or 0 where none is broken
-abbrev pub rule_told : Option Rule → ℕ
-rule_told None = 0
-rule_told (Some k) = rule_number k
+IsOwn (no e) = IsOfLock e
 
 module _ {M : Type 0} (does : Doing M) (limit : ℕ) (s : State) (m : M) where
   -- P holds after every run: of the calls made, the state and the memory; with no calls, of the lock just opened
@@ -104,8 +113,8 @@ module _ {M : Type 0} (does : Doing M) (limit : ℕ) (s : State) (m : M) where
       AlwaysNext (λ es z n c a y p. (was_obeyed a ≡ true → NeedsNow es z c × AnswersSo s.number c a)
       × (NeedsNow es z c → (was_obeyed a ≡ true) ⊎ IsDamaged c a))
 
-  -- Passes: the pass that is out to a task is the one that the calls made say, so there is one at most; it is for the right that the
-  -- task has, and beside one for the writing right no other is out.
+  -- Passes: the pass that is out to a task is the one that the calls made say; it is for the right that the task has, and beside one for
+  -- the writing right no other is out. (A second one is never handed out to a task: see what take needs.)
   abbrev pub Passes : Type 0
   Passes =
       Always (λ es z n. (t : ℕ) → 1 ≤ t → ((record_of z t).out ≡ (history t es).out)
@@ -136,17 +145,17 @@ module _ {M : Type 0} (does : Doing M) (limit : ℕ) (s : State) (m : M) where
   abbrev pub OneLine : Type 0
   OneLine = AlwaysNext (λ es z n c a y p. Did (task_of c) (line_done z (record { call = c; answer = a })) z y)
 
-  -- Soundness: the state keeps the six rules, and the check finds none broken.
+  -- Soundness: the state keeps the six rules, the check finds none broken, and no rule has the number 0, which stands for none.
   abbrev pub Soundness : Type 0
-  Soundness = Always (λ es z n. SoundState z.cells z.records × ((first : Option Rule) × (state_checked z.cells z.records ≡ Ok first) × (rule_told first ≡ 0)))
+  Soundness = Always (λ es z n. SoundState z.cells z.records × (state_checked z.cells z.records ≡ Ok None) × ((k : Rule) → rule_number k ≢ 0))
 
   -- The lines decide: but for costs, the state is what the calls alone make of the opened one, whatever memory and queue, and
   -- whatever they told.
   abbrev pub LinesDecide : Type 0
   LinesDecide = Always (λ es z n. unpaid z ≡ model_run es s)
 
-  -- The cost bound, for the ceiling top: no attempt of a task, running or finished, has cost more than 20 times the ceiling, 5 times
-  -- more for each upgrade and 2 times more for each downgrade that was obeyed since it began.
+  -- The cost bound, for the ceiling top: no attempt of a task, running or finished, has cost more than (20 + 5u + 2g) times the ceiling,
+  -- where u and g are the upgrades and the downgrades of the task that were obeyed since its latest obeyed begin.
   abbrev pub CostBound : ℕ → Type 0
   CostBound top = Always (λ es z n. (t : ℕ) → 1 ≤ t → (record_of z t).account.cost ≤ top * (20 + 5 * (history t es).upgrades + 2 * (history t es).downgrades))
 
@@ -155,9 +164,9 @@ module _ {M : Type 0} (does : Doing M) (limit : ℕ) (s : State) (m : M) where
   abbrev pub ExactCosts : (M → List ℕ) → Type 0
   ExactCosts masks = Always (λ es z n. (z ≡ (counted_run (map (λ e. e.call) es) (record { state = s; masks = masks m })).state) × (masks n ≡ (counted_run (map (λ e. e.call) es) (record { state = s; masks = masks m })).masks))
 
-  -- all that holds over any memory and any queue, of a lock just opened with these roles
-  pub record Promised (roles : List ℕ) : Type 0 where
-    pub starts : Starts roles s
+  -- all that holds over any memory and any queue, of a lock with this number and these rows that was just opened with these roles
+  pub record Promised (number : ℕ) (rows roles : List ℕ) : Type 0 where
+    pub starts : Starts number rows roles s
     pub exclusion : Exclusion
     pub measured_rows : MeasuredRows
     pub steady_rows : SteadyRows
@@ -173,8 +182,9 @@ module _ {M : Type 0} (does : Doing M) (limit : ℕ) (s : State) (m : M) where
 
 -- The promises of a lock that was just opened, as it is then.
 module _ {M Q : Type 0} (mem : MemoryGhosts M) (que : QueueGhosts Q) (l : Lock M Q) where
-  abbrev pub KeepsPromises : List ℕ → Type 0
-  KeepsPromises roles = Promised mem.does mem.limit (view mem que l) l.memory roles
+  -- all promises, where the lock was so before it was opened with these roles
+  abbrev pub KeepsPromises : Lock M Q → List ℕ → Type 0
+  KeepsPromises before roles = Promised mem.does mem.limit (view mem que l) l.memory before.number before.table.now roles
 
   -- the cost bound, for the ceiling of the lock's memory
   abbrev pub KeepsCostBound : Type 0

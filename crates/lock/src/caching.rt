@@ -1,6 +1,7 @@
 // The opening of a lock over the cache layer, with what is known of its costs.
-ghost use Rattle.std.specs.Prelude.{IfOk};
+ghost use Rattle.std.specs.Prelude.{IfOk, IsOk, ◌↔◌};
 ghost use Rattle.cache.specs.Layers.{cached};
+ghost use Rattle.lock.specs.MayOpen.{MayOpen};
 ghost use Rattle.lock.specs.Promises.{KeepsCostBound, KeepsExactCosts, KeepsPromises};
 ghost use Rattle.lock.specs.View.{Opened};
 
@@ -16,7 +17,8 @@ impl<'a, B: Memory, Q: Queue> Lock<'a, Cache<B>, Q> {
     /// 16, in this order; a refusal leaves the lock as it was, closed or open.
     pub fn open_cached(&mut self, roles: &[u8]) -> Result<(), Refusal>
         ensures opens { Opened (cached B.Memory) Q.Queue self.old roles.now result self.new }
-        ensures promises { IfOk result (λ _. KeepsPromises (cached B.Memory) Q.Queue self.new roles.now) }
+        ensures opened { IsOk result ↔ MayOpen (cached B.Memory) Q.Queue self.old roles.now }
+        ensures promises { IfOk result (λ _. KeepsPromises (cached B.Memory) Q.Queue self.new self.old roles.now) }
         ensures cost_bound { IfOk result (λ _. KeepsCostBound (cached B.Memory) Q.Queue self.new) }
         ensures exact_costs { IfOk result (λ _. KeepsExactCosts B.Memory Q.Queue self.new) }
     {

@@ -1,9 +1,10 @@
 // How a lock is made, closed, and how it is opened to its tasks.
-ghost use Rattle.std.specs.Prelude.{◌≡◌, ◌≤◌, true, map, length, IfOk, MatchResult};
+ghost use Rattle.std.specs.Prelude.{◌≡◌, ◌≤◌, true, map, length, IfOk, IsOk, MatchResult, ◌↔◌};
 ghost use Rattle.calls.specs.Opening.{Wrote, enlisted, opening_writes, role_told};
 ghost use Rattle.std.specs.List.{list_all};
 ghost use Rattle.lines.specs.Roles.{is_role};
 ghost use Rattle.lock.specs.Answers.{Asked};
+ghost use Rattle.lock.specs.MayOpen.{MayOpen};
 ghost use Rattle.lock.specs.Promises.{KeepsCostBoundByCopies, KeepsPromises};
 ghost use Rattle.lock.specs.View.{Opened, closed_over, open_refused, records_of, view};
 
@@ -80,6 +81,8 @@ impl<'a, M: Memory, Q: Queue> Lock<'a, M, Q> {
     // A closed lock with this number, over a memory, a queue and a lent table.
     pub fn new(number: u32, memory: M, queue: Q, table: &'a mut [u32]) -> Lock<'a, M, Q>
         ensures state { view M.Memory Q.Queue result ≡ closed_over M.Memory Q.Queue number memory queue table.old }
+        ensures number { result.number ≡ number }
+        ensures table { result.table.now ≡ table.old }
         ensures memory { result.memory ≡ memory }
         ensures queue { result.queue ≡ queue }
         ensures lent { result.table.ghost_name ≡ table.entry.ghost_name }
@@ -130,7 +133,8 @@ impl<'a, M: Memory, Q: Queue> Lock<'a, M, Q> {
     /// those that are no roles are refused.)
     pub fn open(&mut self, roles: &[u8]) -> Result<(), Refusal>
         ensures opens { Opened M.Memory Q.Queue self.old roles.now result self.new }
-        ensures promises { IfOk result (λ _. KeepsPromises M.Memory Q.Queue self.new roles.now) }
+        ensures opened { IsOk result ↔ MayOpen M.Memory Q.Queue self.old roles.now }
+        ensures promises { IfOk result (λ _. KeepsPromises M.Memory Q.Queue self.new self.old roles.now) }
         ensures cost_bound { IfOk result (λ _. KeepsCostBoundByCopies M.Memory Q.Queue self.new) }
     {
         self.ask_open(roles)?;

@@ -1,7 +1,8 @@
-use Rattle.std.proofs.Common.{refl}
+use Rattle.std.proofs.Common.{refl, rules}
+use Rattle.calls.specs.Opening.{Opens}
 use Rattle.lock.specs.View.{open_refused, view}
 use Rattle.lock.proofs.Opened.{open_with, opened_is, opened_then, opens}
-use Rattle.lock.proofs.Promised.{opened_promises}
+use Rattle.lock.proofs.Promised.{opened_promises, opened_where}
 use Rattle.lock.proofs.CostRuns.{opened_cost}
 use Rattle.lock.proofs.locks.Lock.open.Goals as goal
 
@@ -15,6 +16,21 @@ returns-clause-opens g c =
     let opened = open_with _ roles c.enlist_all.ensures asked.1.0 in
     let now = opened_is m.cells m.top m.does g.met.M.Memory.kept (view m g.Q.Queue s) _ s.memory _ roles wrote refl (g.met.M.Memory.seven s.memory) refl opened refl c.enlist_all.ensures refl in
     (opens m.does (open_refused m g.Q.Queue s roles) (view m g.Q.Queue s) _ s.memory _ roles asked.0 wrote now, refl)
+
+pub returns-clause-opened : goal.returns-clause-opened
+returns-clause-opened g c =
+    let s = c.args.self.now in
+    let roles = c.args.roles.now in
+    opened_where g.M.Memory g.Q.Queue s roles (open_refused g.M.Memory g.Q.Queue s roles) _ _ _ refl (returns-clause-opens g c).0
+
+pub returns-in_err-ask_open-clause-opened : goal.returns-in_err-ask_open-clause-opened
+returns-in_err-ask_open-clause-opened g c =
+    let m = g.M.Memory in
+    let s = c.args.self.now in
+    let roles = c.args.roles.now in
+    let before = view m g.Q.Queue s in
+    let refused : Opens m.does (open_refused m g.Q.Queue s roles) before s.memory roles c.from_residual.result before s.memory = search rules in
+    opened_where m g.Q.Queue s roles (open_refused m g.Q.Queue s roles) before s.memory c.from_residual.result refl refused
 
 pub returns-clause-promises : goal.returns-clause-promises
 returns-clause-promises g c =
