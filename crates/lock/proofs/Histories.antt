@@ -41,26 +41,26 @@ use Rattle.lock.proofs.Recorded.{told, says_of, arrived_told, cond_same, quiet_f
 -- What a verdict says of the call that it is of.
 
 -- the line of task u, whose record then is r
-record LineSays (c : Call) (s : State) (u : ℕ) (r : Record) : Type 0 where
-  is : u ≡ task_of c
-  away : Away r.track.place
-  says : told r ≡ obeyed_in (told (record_of s u)) c
-  ends : (f : Found) (share : ℕ) → Finishes (record_of s u) (settled r f share)
-  costs : (share : ℕ) → min (r.account.cost + share) 4294967295 ≡ cost_after (record_of s u).account.cost share c
-  needs : NeedsIn s c
-  answers : AnswersSo s.number c done
+pub record LineSays (c : Call) (s : State) (u : ℕ) (r : Record) : Type 0 where
+  pub is : u ≡ task_of c
+  pub away : Away r.track.place
+  pub says : told r ≡ obeyed_in (told (record_of s u)) c
+  pub ends : (f : Found) (share : ℕ) → Finishes (record_of s u) (settled r f share)
+  pub costs : (share : ℕ) → min (r.account.cost + share) 4294967295 ≡ cost_after (record_of s u).account.cost share c
+  pub needs : NeedsIn s c
+  pub answers : AnswersSo s.number c done
 
 -- the answer a, with the state z then
-record AnswerSays (c : Call) (s : State) (a : Answer) (z : State) : Type 0 where
-  number : z.number ≡ s.number
-  rows : length z.table ≡ length s.table
-  says : (t : ℕ) → 1 ≤ t → told (record_of z t) ≡ made_in t (told (record_of s t)) (record { call = c; answer = a })
-  still : (cost share : ℕ) → cost_after cost share c ≡ cost
-  needs : NeedsIn s c
-  answers : was_obeyed a ≡ true → AnswersSo s.number c a
-  refused : was_obeyed a ≡ false → z ≡ s
+pub record AnswerSays (c : Call) (s : State) (a : Answer) (z : State) : Type 0 where
+  pub number : z.number ≡ s.number
+  pub rows : length z.table ≡ length s.table
+  pub says : (t : ℕ) → 1 ≤ t → told (record_of z t) ≡ made_in t (told (record_of s t)) (record { call = c; answer = a })
+  pub still : (cost share : ℕ) → cost_after cost share c ≡ cost
+  pub needs : NeedsIn s c
+  pub answers : was_obeyed a ≡ true → AnswersSo s.number c a
+  pub refused : was_obeyed a ≡ false → z ≡ s
 
-abbrev Says : Call → State → Verdict → Type 0
+abbrev pub Says : Call → State → Verdict → Type 0
 Says c s (refuse e) = Unit {0}
 Says c s (line u r) = LineSays c s u r
 Says c s (at_once a z) = AnswerSays c s a z
@@ -70,7 +70,7 @@ asked_says c s None v f = f refl
 asked_says c s (Some e) v f = tt
 
 -- of each task f tells what it told, but of the one whose record is replaced, of which it tells what g makes of that
-replaced_by : {A : Type 0} (f : Record → A) (g : A → A) (rs : List Record) (t u : ℕ) (q : Record) → 1 ≤ t → 1 ≤ u → u ≤ length rs → f q ≡ g (f (get_or rs (u - 1) (fresh Reader))) →
+pub replaced_by : {A : Type 0} (f : Record → A) (g : A → A) (rs : List Record) (t u : ℕ) (q : Record) → 1 ≤ t → 1 ≤ u → u ≤ length rs → f q ≡ g (f (get_or rs (u - 1) (fresh Reader))) →
     f (get_or (set rs (u - 1) q) (t - 1) (fresh Reader)) ≡ cond (eqb u t) (g (f (get_or rs (t - 1) (fresh Reader)))) (f (get_or rs (t - 1) (fresh Reader)))
 replaced_by f g rs t u q low low' high e =
     let h : u - 1 < length rs = omega arith in
@@ -105,7 +105,7 @@ ends_away r q h e k f share = moves r.track.place (settled q f share).track.plac
 held_away : (s : State) (w : Right) (t : ℕ) → Holding s w t → Away (record_of s t).track.place
 held_away s w t p = let k = (record_of s t).track in right_away k.place k.role k.standing w p.right
 
-judged_says : (c : Call) (s : State) → Lawful s → Says c s (judge c s)
+pub judged_says : (c : Call) (s : State) → Lawful s → Says c s (judge c s)
 judged_says (begin t) s g =
     let r = record_of s t in
     let v = line t (begun r) in
@@ -164,13 +164,13 @@ judged_says (put k t row n) s g =
 
 -- What a call that was carried out so leaves.
 
-record Left (c : Call) (s : State) (a : Answer) (z : State) : Type 0 where
-  number : z.number ≡ s.number
-  rows : length z.table ≡ length s.table
-  says : (t : ℕ) → 1 ≤ t → told (record_of z t) ≡ made_in t (told (record_of s t)) (record { call = c; answer = a })
-  ends : (t : ℕ) → 1 ≤ t → Finishes (record_of s t) (record_of z t)
-  needs : was_obeyed a ≡ true → NeedsIn s c
-  answers : was_obeyed a ≡ true → AnswersSo s.number c a
+pub record Left (c : Call) (s : State) (a : Answer) (z : State) : Type 0 where
+  pub number : z.number ≡ s.number
+  pub rows : length z.table ≡ length s.table
+  pub says : (t : ℕ) → 1 ≤ t → told (record_of z t) ≡ made_in t (told (record_of s t)) (record { call = c; answer = a })
+  pub ends : (t : ℕ) → 1 ≤ t → Finishes (record_of s t) (record_of z t)
+  pub needs : was_obeyed a ≡ true → NeedsIn s c
+  pub answers : was_obeyed a ≡ true → AnswersSo s.number c a
 
 left : (c : Call) (v : Verdict) (s z : State) (a : Answer) → Obeyed v s a z → Meant s v → Says c s v → Left c s a z
 left c (refuse e) s z a (x, y) h k =
@@ -219,7 +219,7 @@ record Frame (s z : State) : Type 0 where
   rows : length z.table ≡ length s.table
 
 module _ {M : Type 0} (does : Doing M) (limit : ℕ) where
-  call_left : (c : Call) (s z : State) (m n : M) (a : Answer) → Able limit s → Calls does limit c s m a z n → Left c s a z
+  pub call_left : (c : Call) (s z : State) (m n : M) (a : Answer) → Able limit s → Calls does limit c s m a z n → Left c s a z
   call_left c s z m n a g h = left c (judge c s) s z a (call_kept does limit c s z m n a g h).obeyed (meant c s g.lawful) (judged_says c s g.lawful)
 
   run_says : (P : State → Type 0) (es : List Made) (s z : State) (m n : M) → Able limit s → RunWhile does limit P es s m z n → (t : ℕ) → 1 ≤ t → told (record_of z t) ≡ history_from t es (told (record_of s t))
@@ -233,55 +233,6 @@ module _ {M : Type 0} (does : Doing M) (limit : ℕ) where
       let rest = run_frame P es y z k n (call_able does limit e.call s y m k e.answer g call) run in
       let first = call_left e.call s y m k e.answer g call in
       record { number = rest.number ∙ first.number; tasks = rest.tasks ∙ (call_same does limit s y m k e.call e.answer call).count; rows = rest.rows ∙ first.rows }
-
-  deed_tells : (d : Deed) (m n : M) (t share : ℕ) → Shares does m t d share n → TellsShare does m t share n
-  deed_tells (Touch op) m n t share h = inl (op, h)
-  deed_tells Join m n t share h = inr h
-  deed_tells First m n t share h = inr h
-  deed_tells Quit m n t share h = inr h
-  deed_tells Nothing m n t share h = inr h
-
-  arrived_cost : (p : Place) (a : Account) → (arrived p a).cost ≡ a.cost
-  arrived_cost Rest a = refl
-  arrived_cost Inside a = refl
-  arrived_cost (Next l) a = refl
-
-  abbrev Costs : Call → State → M → Answer → State → M → Type 0
-  Costs c s m a z n = (share : ℕ) × TellsShare does m (task_of c) share n × ((t : ℕ) → 1 ≤ t → (record_of z t).account.cost ≡ cost_made t (record_of s t).account.cost share (record { call = c; answer = a }))
-
-  carried_costs : (c : Call) (v : Verdict) (s z : State) (m n : M) (a : Answer) → Able limit s → Meant s v → Says c s v → Carried does limit v s m a z n → Costs c s m a z n
-  carried_costs c (refuse e) s z m n a g h k (share, shares, x, y) =
-      (share, inr shares, λ t low. ap (λ w. (record_of w t).account.cost) y ∙ ap (λ b. cost_made t (record_of s t).account.cost share (record { call = c; answer = b })) (sym x))
-  carried_costs c (line u r) s z m n a g h k (share, shares, x, y) =
-      let d = next_deed u r.track in
-      let none = allowed limit s u r g.lawful g.fits g.two h in
-      let answer : a ≡ done = subst (λ o. a ≡ (lined o u r d share s).0) none x in
-      let left : z ≡ after_deed u r d share s = subst (λ o. z ≡ (lined o u r d share s).1) none y in
-      let tells : TellsShare does m u share n = deed_tells d m n u share (subst (λ o. LineShares does o m u d share n) none shares) in
-      let f = finds d u s.cells s.waiting in
-      let q = settled r f share in
-      let cost : q.account.cost ≡ cost_after (record_of s u).account.cost share c = arrived_cost q.track.place (charged r.account share) ∙ k.costs share in (
-        share,
-        subst (λ j. TellsShare does m j share n) k.is tells,
-        λ t low.
-            ap (λ w. (record_of w t).account.cost) left ∙ replaced_by (λ (x : Record). x.account.cost) (λ n. cost_after n share c) s.records t u q low h.low h.high cost
-            ∙ ap (λ x. cond (eqb x t) (cost_after (record_of s t).account.cost share c) (record_of s t).account.cost) k.is ∙ ap (λ b. cost_made t (record_of s t).account.cost share (record { call = c; answer = b })) (sym answer),
-      )
-  carried_costs c (at_once b w) s z m n a g h k (share, shares, x, y) = (
-    share,
-    inr shares,
-    λ t low.
-        let cost = (record_of s t).account.cost in
-        let test = was_obeyed a && eqb (task_of c) t in
-        ap (λ w. (record_of w t).account.cost) y ∙ ap (λ (x : Account). x.cost) (h.accounts (t - 1)) ∙ cond_same test cost ∙ ap (λ n. cond test n cost) (sym (k.still cost share)),
-  )
-
-  -- a call costs its task the share that was told, and accounts move as the places of tasks say
-  pub charged_account : (c : Call) (s z : State) (m n : M) (a : Answer) → Able limit s → Calls does limit c s m a z n →
-      (share : ℕ) × TellsShare does m (task_of c) share n × ((t : ℕ) → 1 ≤ t → Charges t share (record { call = c; answer = a }) (record_of s t) (record_of z t))
-  charged_account c s z m n a g h =
-      let (share, tells, cost) = carried_costs c (judge c s) s z m n a g (meant c s g.lawful) (judged_says c s g.lawful) h in
-      (share, tells, λ t low. (cost t low, (call_left c s z m n a g h).ends t low))
 
   carried_refused : (c : Call) (v : Verdict) (s z : State) (m n : M) (a : Answer) → Says c s v → Obeyed v s a z → Carried does limit v s m a z n → was_obeyed a ≡ false → (z ≡ s) × (n ≡ m)
   carried_refused c (refuse e) s z m n a k h (share, shares, x, y) o = (y, shares.1)

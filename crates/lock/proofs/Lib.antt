@@ -16,6 +16,7 @@ pub mod Recorded
 pub mod Granted
 pub mod Histories
 pub mod OneLines
+pub mod Charged
 pub mod Measured
 pub mod Promised
 pub mod Costs

@@ -28,7 +28,7 @@ use Rattle.lock.proofs.Recorded.{cond_same}
 use Rattle.lock.proofs.Runs.{Able, Obeyed, call_kept}
 
 -- the verdict on the call is the line that the call does, or none
-abbrev DoesLine : Call → State → Verdict → Type 0
+abbrev pub DoesLine : Call → State → Verdict → Type 0
 DoesLine c s (refuse e) = Unit {0}
 DoesLine c s (line u r) = (u ≡ task_of c) × ((l : Line) × (line_of c (record_of s u).track ≡ Some l) × Leads (u - 1) (record_of s u).track r.track l)
 DoesLine c s (at_once a z) = line_of c (record_of s (task_of c)).track ≡ None
@@ -40,7 +40,7 @@ asked_line c s (Some e) v f = tt
 next_is : (p : Place) (l : Line) → p ≡ Next l → next_line p ≡ Some l
 next_is p l e = ap next_line e
 
-judged_line : (c : Call) (s : State) → Lawful s → DoesLine c s (judge c s)
+pub judged_line : (c : Call) (s : State) → Lawful s → DoesLine c s (judge c s)
 judged_line (begin t) s g =
     let r = record_of s t in
     let k = r.track in

@@ -30,7 +30,8 @@ use Rattle.lock.specs.Promises.{Promised, Starts}
 use Rattle.lock.specs.Runs.{Made, Run}
 use Rattle.lock.proofs.Decided.{decided}
 use Rattle.lock.proofs.Facts.{OneTask, TwoTasks, seen, seen_cells}
-use Rattle.lock.proofs.Histories.{charged_account, counts, granted, may_read, passes, refused}
+use Rattle.lock.proofs.Charged.{charged_account}
+use Rattle.lock.proofs.Histories.{counts, granted, may_read, passes, refused}
 use Rattle.lock.proofs.Holds.{Holds, at}
 use Rattle.lock.proofs.Judged.{Lawful, pass_there}
 use Rattle.lock.proofs.Measured.{reads}

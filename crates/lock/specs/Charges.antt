@@ -1,7 +1,8 @@
 -- What calls make of the accounts of tasks.
-use Rattle.std.specs.Prelude.{◌≡◌, ℕ, ◌+◌, ◌⊎◌, Bool, true, false, min, cond, not, ◌&&◌, ◌==◌}
-use Rattle.memory.specs.declared.operation.Operation.{Operation}
+use Rattle.std.specs.Prelude.{◌≡◌, ℕ, ◌+◌, Bool, true, false, min, cond, not, ◌&&◌, ◌==◌}
 use Rattle.memory.specs.Calls.{Doing}
+use Rattle.lines.specs.declared.deed.Deed.{Deed}
+use Rattle.lines.specs.declared.deed.Deed.TheVariants.{Touch, Join, First, Quit, Nothing}
 use Rattle.lines.specs.declared.place.Place.{Place}
 use Rattle.lines.specs.declared.place.Place.TheVariants.{Rest, Inside, Next}
 use Rattle.calls.specs.declared.record.Record.{Record}
@@ -9,9 +10,13 @@ use Rattle.calls.specs.Steps.{Call, advance, begin, downgrade, lay_back, leave, 
 use Rattle.lock.specs.History.{History}
 use Rattle.lock.specs.Runs.{Made, task_of, was_obeyed}
 
--- the memory told this share for one operation of task t, which took it from n to p; or it did none, and the share is 0
-abbrev pub TellsShare : {M : Type 0} → Doing M → M → ℕ → ℕ → M → Type 0
-TellsShare does n t share p = ((op : Operation) × does n t op share p) ⊎ ((share ≡ 0) × (p ≡ n))
+-- of a deed of task t, which took it from n to p, the memory told this share: that of its operation, or 0 where it touches no cell
+abbrev pub TellsShare : {M : Type 0} → Doing M → M → ℕ → Deed → ℕ → M → Type 0
+TellsShare does n t (Touch op) share p = does n t op share p
+TellsShare does n t Join share p = (share ≡ 0) × (p ≡ n)
+TellsShare does n t First share p = (share ≡ 0) × (p ≡ n)
+TellsShare does n t Quit share p = (share ≡ 0) × (p ≡ n)
+TellsShare does n t Nothing share p = (share ≡ 0) × (p ≡ n)
 
 -- What an obeyed call makes of its task's cost, where the memory told this share: begin starts it anew, a line adds its share, and no
 -- cost passes the largest 32-bit number.
@@ -30,7 +35,7 @@ cost_after cost share (put k t row n) = cost
 abbrev pub cost_made : ℕ → ℕ → ℕ → Made → ℕ
 cost_made t cost share e = cond (was_obeyed e.answer && (task_of e.call == t)) (cost_after cost share e.call) cost
 
--- whether a task at this place is at rest
+-- whether a task at this place is at rest (written out here, and not the test by which records are kept in order)
 abbrev pub is_rest : Place → Bool
 is_rest Rest = true
 is_rest Inside = false

@@ -1,5 +1,7 @@
 -- The one line that an obeyed call does.
 use Rattle.std.specs.Prelude.{◌≡◌, ℕ, ◌≤◌, ◌≢◌, cond, Some, None, Option}
+use Rattle.lines.specs.declared.deed.Deed.{Deed}
+use Rattle.lines.specs.declared.deed.Deed.TheVariants.{Nothing}
 use Rattle.lines.specs.declared.place.Line.{Line}
 use Rattle.lines.specs.declared.place.Place.{Place}
 use Rattle.lines.specs.declared.place.Place.TheVariants.{Rest, Inside, Next}
@@ -32,6 +34,15 @@ line_of (put k t row n) r = None
 -- the line that a call did, by the state before it: none where it was refused
 abbrev pub line_done : State → Made → Option Line
 line_done z e = cond (was_obeyed e.answer) (line_of e.call (record_of z (task_of e.call)).track) None
+
+-- the deed of this line for task t on the track r, or none
+abbrev pub deed_for : Option Line → ℕ → Track → Deed
+deed_for None t r = Nothing
+deed_for (Some l) t r = deed_of l t r
+
+-- the deed that a call did, by the state before it
+abbrev pub deed_done : State → Made → Deed
+deed_done z e = deed_for (line_done z e) (task_of e.call) (record_of z (task_of e.call)).track
 
 -- From z to y task t did this line: its one deed on the cells and the queue, and what the line makes of the task by what the deed found;
 -- no other task moved. Or no line was done, and nothing of this is moved.

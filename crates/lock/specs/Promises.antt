@@ -29,7 +29,7 @@ use Rattle.lock.specs.Counted.{CostsOne, counted_run}
 use Rattle.lock.specs.History.{history}
 use Rattle.lock.specs.Model.{model_run, unpaid}
 use Rattle.lock.specs.Needs.{AnswersSo, IsDamaged, Needs}
-use Rattle.lock.specs.OneLine.{Did, line_done}
+use Rattle.lock.specs.OneLine.{Did, deed_done, line_done}
 use Rattle.lock.specs.Rows.{IsOfRow, Reads, last_put}
 use Rattle.lock.specs.Runs.{Made, Run, RunWhile, task_of, was_obeyed}
 use Rattle.lock.specs.View.{view}
@@ -125,11 +125,11 @@ module _ {M : Type 0} (does : Doing M) (limit : ℕ) (s : State) (m : M) where
   abbrev pub CountedAccounts : Type 0
   CountedAccounts = Always (λ es z n. (t : ℕ) → 1 ≤ t → Counts (history t es) (record_of z t))
 
-  -- Charged accounts: an obeyed line adds to the cost of its task the share that the memory told, and to nobody else's; a call that
-  -- brings its task to rest adds 1 to its finished attempts and its cost to the total, and no other call moves either.
+  -- Charged accounts: an obeyed line adds to the cost of its task the share that the memory told of its operation, nothing where it
+  -- touches no cell, and to nobody else's; a call that brings its task to rest adds 1 to its finished attempts and its cost to the total, and no other call moves either.
   abbrev pub ChargedAccounts : Type 0
   ChargedAccounts =
-      AlwaysNext (λ es z n c a y p. (share : ℕ) × TellsShare does n (task_of c) share p
+      AlwaysNext (λ es z n c a y p. (share : ℕ) × TellsShare does n (task_of c) (deed_done z (record { call = c; answer = a })) share p
       × ((t : ℕ) → 1 ≤ t → Charges t share (record { call = c; answer = a }) (record_of z t) (record_of y t)))
 
   -- Own refusals: neither memory nor queue ever refuses a call.
