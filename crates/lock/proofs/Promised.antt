@@ -4,6 +4,14 @@ use Rattle.std.proofs.lemmas.Bool.{and_from, and_parts, eqb-true, false≢true, 
 use Rattle.memory.specs.Calls.{Doing}
 use Rattle.lines.specs.declared.place.Role.{Role}
 use Rattle.lines.specs.declared.place.Role.TheVariants.{Reader, Writer}
+use Rattle.lines.specs.declared.place.Place.{Place}
+use Rattle.lines.specs.declared.place.Place.TheVariants.{Rest, Inside, Next}
+use Rattle.lines.specs.declared.place.Right.{Right}
+use Rattle.lines.specs.declared.place.Right.TheVariants.{Writing}
+use Rattle.lines.specs.declared.place.Standing.{Standing}
+use Rattle.lines.specs.declared.place.Standing.TheVariants.{Normal, Upgraded, Downgraded}
+use Rattle.lines.specs.declared.track.Track.{Track}
+use Rattle.lines.specs.Rights.{right_at, right_inside}
 use Rattle.lines.specs.Classes.{has_upgraded, is_counted}
 use Rattle.lines.specs.Lines.{at_rest}
 use Rattle.lines.specs.Roles.{is_role, role_of}
@@ -13,7 +21,7 @@ use Rattle.calls.specs.declared.refusal.Refusal.{Refusal}
 use Rattle.lock.specs.declared.locks.Lock.{Lock}
 use Rattle.lock.specs.MayOpen.{MayOpen}
 use Rattle.lock.specs.View.{open_refused, records_of, view}
-use Rattle.lock.proofs.Recorded.{some_none}
+use Rattle.lock.proofs.Recorded.{none_some, some_none}
 use Rattle.calls.specs.declared.refusal.Refusal.TheVariants.{Ceiling, Limit, Opened, Queued, Role as NotRole, Roles}
 use Rattle.calls.specs.declared.rule.Rule.{Rule}
 use Rattle.calls.specs.Rules.{rule_number}
@@ -26,7 +34,7 @@ use Rattle.calls.proofs.Obeyed.{yes}
 use Rattle.calls.proofs.Sound.{fresh_in_order}
 use Rattle.lock.specs.History.{nothing_yet}
 use Rattle.lock.specs.Model.{model_run, unpaid, unpaid_record}
-use Rattle.lock.specs.Promises.{Promised, Starts}
+use Rattle.lock.specs.Promises.{Promised, Rights, Starts}
 use Rattle.lock.specs.Runs.{Made, Run}
 use Rattle.lock.proofs.Decided.{decided}
 use Rattle.lock.proofs.Facts.{OneTask, TwoTasks, seen, seen_cells}
@@ -49,6 +57,29 @@ first_record (b ∷ bs) (suc i) = first_record bs i
 pub no_history : (s : State) (roles : List ℕ) → s.records ≡ map enlisted roles → (t : ℕ) → told (record_of s t) ≡ nothing_yet
 no_history s roles new t = let (o, is) = first_record roles (t - 1) in ap (λ rs. told (at rs (t - 1))) new ∙ ap told is
 
+-- Rights by place, role and standing.
+
+inside_at : (p : Place) (o : Role) (s : Standing) → ((w : Right) × (right_at p o s ≡ Some w)) ↔ p ≡ Inside
+inside_at Rest o s = (λ h. absurd (none_some h.0 h.1), λ e. absurd (let k : ◌≡◌ {A = ℕ} 0 1 = cc in omega arith))
+inside_at Inside o s = (λ h. refl, λ e. (right_inside o s, refl))
+inside_at (Next l) o s = (λ h. absurd (none_some h.0 h.1), λ e. absurd (let k : ◌≡◌ {A = ℕ} 0 1 = cc in omega arith))
+
+writing_at : (p : Place) (o : Role) (s : Standing) → right_at p o s ≡ Some Writing → (p ≡ Inside) × ((s ≡ Upgraded) ⊎ ((o ≡ Writer) × (s ≡ Normal)))
+writing_at Rest o s h = absurd (none_some Writing h)
+writing_at Inside o Upgraded h = (refl, inl refl)
+writing_at Inside Writer Normal h = (refl, inr (refl, refl))
+writing_at Inside Reader Normal h = absurd (let k : ◌≡◌ {A = ℕ} 0 1 = cc in omega arith)
+writing_at Inside Reader Downgraded h = absurd (let k : ◌≡◌ {A = ℕ} 0 1 = cc in omega arith)
+writing_at Inside Writer Downgraded h = absurd (let k : ◌≡◌ {A = ℕ} 0 1 = cc in omega arith)
+writing_at (Next l) o s h = absurd (none_some Writing h)
+
+may_write_at : (p : Place) (o : Role) (s : Standing) → (p ≡ Inside) × ((s ≡ Upgraded) ⊎ ((o ≡ Writer) × (s ≡ Normal))) → right_at p o s ≡ Some Writing
+may_write_at p o s (e, inl k) = ap (λ q. right_at q o s) e ∙ ap (right_at Inside o) k
+may_write_at p o s (e, inr (j, k)) = ap (λ q. right_at q o s) e ∙ ap (λ r. right_at Inside r s) j ∙ ap (right_at Inside Writer) k
+
+rights : (r : Track) → Rights r
+rights r = record { inside = inside_at r.place r.role r.standing; writing = (writing_at r.place r.role r.standing, may_write_at r.place r.role r.standing) }
+
 -- each rule has a number
 numbered : (k : Rule) → rule_number k ≢ 0
 numbered k h = grind arith
@@ -60,6 +91,7 @@ module _ {M : Type 0} (does : Doing M) (limit : ℕ) (s : State) (m : M) (number
       let first = no_history s roles starts.4 in
       record {
         starts = starts;
+        lawful_rights = λ es z n run t. rights (record_of z t).track;
         exclusion = λ es z n run. (section_with_right z, λ t u low low' apart w. let k = (able es z n run).lawful in (excluded z t u k low low' apart w, no_right_beside z t u k low low' apart w));
         measured_rows = λ es z n run w k t row a y p needs call.
             let may = may_read does limit s first g _ es z m n run w k t row needs in

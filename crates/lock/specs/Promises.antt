@@ -1,15 +1,16 @@
 -- What an opened lock promises. s is its state when it was opened and m its memory then; each promise speaks of every run from there.
-use Rattle.std.specs.Prelude.{◌≡◌, ℕ, ◌+◌, ◌*◌, ◌≤◌, ◌⊎◌, true, false, cond, List, [], ◌∷◌, length, map, Some, None, Option, Ok, ◌≢◌, slice_index, ◌==◌}
+use Rattle.std.specs.Prelude.{◌≡◌, ℕ, ◌+◌, ◌*◌, ◌≤◌, ◌⊎◌, ◌↔◌, true, false, cond, List, [], ◌∷◌, length, map, Some, None, Option, Ok, ◌≢◌, slice_index, ◌==◌}
 use Rattle.memory.specs.declared.interface.Memory.{Ghosts as MemoryGhosts}
 use Rattle.memory.specs.Calls.{Doing}
 use Rattle.cache.specs.declared.layer.Cache.{Cache}
 use Rattle.cache.specs.Layers.{cached}
 use Rattle.queue.specs.declared.interface.Queue.{Ghosts as QueueGhosts}
-use Rattle.lines.specs.declared.place.Place.TheVariants.{Rest}
+use Rattle.lines.specs.declared.place.Place.TheVariants.{Rest, Inside}
 use Rattle.lines.specs.declared.place.Right.{Right}
 use Rattle.lines.specs.declared.place.Right.TheVariants.{Reading, Writing}
 use Rattle.lines.specs.declared.place.Role.TheVariants.{Reader, Writer}
-use Rattle.lines.specs.declared.place.Standing.TheVariants.{Normal}
+use Rattle.lines.specs.declared.place.Standing.TheVariants.{Normal, Upgraded}
+use Rattle.lines.specs.declared.track.Track.{Track}
 use Rattle.lines.specs.Classes.{in_section}
 use Rattle.lines.specs.Rights.{right_of}
 use Rattle.calls.specs.declared.record.Record.{Record}
@@ -57,6 +58,12 @@ Starts number rows roles s =
 abbrev pub HasRight : State → ℕ → Right → Type 0
 HasRight z t w = right_of (record_of z t).track ≡ Some w
 
+-- The rights of a task on this track: inside it has one, elsewhere none, and it is the writing right where the task is upgraded or is a
+-- writer inside as it came.
+pub record Rights (r : Track) : Type 0 where
+  pub inside : ((w : Right) × (right_of r ≡ Some w)) ↔ r.place ≡ Inside
+  pub writing : right_of r ≡ Some Writing ↔ ((r.place ≡ Inside) × ((r.standing ≡ Upgraded) ⊎ ((r.role ≡ Writer) × (r.standing ≡ Normal))))
+
 -- a refusal of the lock itself, and not of the memory or the queue
 abbrev pub IsOfLock : Refusal → Type 0
 IsOfLock (Memory e) = ⊥
@@ -83,6 +90,10 @@ module _ {M : Type 0} (does : Doing M) (limit : ℕ) (s : State) (m : M) where
   -- what a call needs so that it is obeyed, by the calls made before it
   abbrev pub NeedsNow : List Made → State → Call → Type 0
   NeedsNow es z c = Needs s.number (length s.records) (length s.table) (history (task_of c) es) (record_of z (task_of c)).track c
+
+  -- Lawful rights: each task has the right that its place, its role and its standing say.
+  abbrev pub LawfulRights : Type 0
+  LawfulRights = Always (λ es z n. (t : ℕ) → Rights (record_of z t).track)
 
   -- Exclusion: a task that has a right is in the section; and while a task has the writing right, no other task is in the section, and
   -- so none has a right.
@@ -167,6 +178,7 @@ module _ {M : Type 0} (does : Doing M) (limit : ℕ) (s : State) (m : M) where
   -- all that holds over any memory and any queue, of a lock with this number and these rows that was just opened with these roles
   pub record Promised (number : ℕ) (rows roles : List ℕ) : Type 0 where
     pub starts : Starts number rows roles s
+    pub lawful_rights : LawfulRights
     pub exclusion : Exclusion
     pub measured_rows : MeasuredRows
     pub steady_rows : SteadyRows

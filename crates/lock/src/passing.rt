@@ -1,5 +1,5 @@
 // Passes handed out and laid back.
-ghost use Rattle.std.specs.Prelude.{◌≡◌, ◌≤◌, true, None, Some, length, IfErr};
+ghost use Rattle.std.specs.Prelude.{◌≡◌, ◌≤◌, true, None, Some, length, IfErr, IfOk};
 ghost use Rattle.lines.specs.Rights.{right_of};
 ghost use Rattle.calls.specs.Questions.{out_for, pass_refusal, take_refusal};
 ghost use Rattle.calls.specs.Records.{with_out};
@@ -82,9 +82,12 @@ impl<'a, M: Memory, Q: Queue> Lock<'a, M, Q> {
         Ok(task)
     }
 
-    // Hands out a pass to a task that has the right which it bears. Refused: 10, 20, 24, 25, 26.
+    /// Hands out a pass to a task that has the right which it bears: the pass is of this lock and of the task. Refused: 10,
+    /// 20, 24, 25, 26.
     pub fn take<R: Bears>(&mut self, task: u32) -> Result<Pass<R>, Refusal>
-        ensures { Does M.Memory Q.Queue (take R.right task) self.old (taken R.right result) self.new }
+        ensures lock { IfOk result (λ pass. pass.lock ≡ self.old.number) }
+        ensures task { IfOk result (λ pass. pass.task ≡ task) }
+        ensures does { Does M.Memory Q.Queue (take R.right task) self.old (taken R.right result) self.new }
     {
         let right = R::which();
         let holder = self.find(task)?.hand_out(right)?;
