@@ -27,7 +27,7 @@ use Rattle.calls.proofs.Obeyed.{call_same, yes}
 use Rattle.calls.proofs.Sound.{has_out, parts}
 use Rattle.lock.specs.Charges.{Charges, Counts, Finishes, TellsShare, cost_after, cost_made, unfinished}
 use Rattle.lock.specs.History.{History, history, history_from, made_in, nothing_yet, obeyed_in}
-use Rattle.lock.specs.Needs.{AnswersSo, IsDamaged, Needs}
+use Rattle.lock.specs.Needs.{AnswersSo, RefusedAsDamaged, Needs}
 use Rattle.lock.specs.Promises.{HasRight}
 use Rattle.lock.proofs.RowRuns.{MayRead}
 use Rattle.lock.specs.Runs.{Made, RunWhile, task_of, was_obeyed}

@@ -14,7 +14,7 @@ use Rattle.calls.specs.States.{State, record_of, with_record, with_row}
 use Rattle.calls.specs.Steps.{Answer, Call, Verdict, advance, asked, at_once, begin, done, downgrade, gives, hands, judge, lay_back, leave, line, no, put, read, refuse, row_answer, take, upgrade}
 use Rattle.calls.proofs.Obeyed.{yes}
 use Rattle.lock.specs.Charges.{unfinished}
-use Rattle.lock.specs.Needs.{IsDamaged, IsRefused, Needs, OnLine}
+use Rattle.lock.specs.Needs.{RefusedAsDamaged, IsRefused, Needs, OnLine}
 use Rattle.lock.specs.Runs.{task_of, was_obeyed}
 use Rattle.lock.proofs.Recorded.{told, some_none}
 use Rattle.lock.proofs.Runs.{Obeyed}
@@ -122,7 +122,7 @@ told_row n h =
 abbrev pub Clear : Call → Verdict → Type 0
 Clear c (refuse e) = ⊥
 Clear c (line t r) = Unit {0}
-Clear c (at_once a z) = (was_obeyed a ≡ true) ⊎ IsDamaged c a
+Clear c (at_once a z) = (was_obeyed a ≡ true) ⊎ RefusedAsDamaged c a
 
 pub asked_clear : (c : Call) (o : Option Refusal) (v : Verdict) → o ≡ None → Clear c v → Clear c (asked o v)
 asked_clear c o v e h = subst (λ x. Clear c (asked x v)) (sym e) h
@@ -160,7 +160,7 @@ judged_clear (put k t row n) s opened (low, high, ((number, out), there, some, f
     (asked_clear (put k t row n) (row_refusal row (length s.table)) (asked (thickness_refusal n) v) (clear_row row (length s.table) there)
     (asked_clear (put k t row n) (thickness_refusal n) v (clear_thickness n some few) (inl refl)))
 
-pub obeyed_clear : (c : Call) (v : Verdict) (s z : State) (a : Answer) → Obeyed v s a z → Clear c v → (was_obeyed a ≡ true) ⊎ IsDamaged c a
+pub obeyed_clear : (c : Call) (v : Verdict) (s z : State) (a : Answer) → Obeyed v s a z → Clear c v → (was_obeyed a ≡ true) ⊎ RefusedAsDamaged c a
 obeyed_clear c (refuse f) s z a x h = absurd h
 obeyed_clear c (line t r) s z a (x, y) h = inl (ap was_obeyed x)
-obeyed_clear c (at_once b w) s z a (x, y) h = subst (λ d. (was_obeyed d ≡ true) ⊎ IsDamaged c d) (sym x) h
+obeyed_clear c (at_once b w) s z a (x, y) h = subst (λ d. (was_obeyed d ≡ true) ⊎ RefusedAsDamaged c d) (sym x) h

@@ -27,7 +27,7 @@ use Rattle.calls.proofs.Obeyed.{call_same, yes}
 use Rattle.calls.proofs.Sound.{has_out, parts}
 use Rattle.lock.specs.Charges.{Charges, Counts, Finishes, TellsShare, cost_after, cost_made, unfinished}
 use Rattle.lock.specs.History.{History, history, history_from, made_in, nothing_yet, obeyed_in}
-use Rattle.lock.specs.Needs.{AnswersSo, IsDamaged, Needs}
+use Rattle.lock.specs.Needs.{AnswersSo, RefusedAsDamaged, Needs}
 use Rattle.lock.specs.Promises.{HasRight}
 use Rattle.lock.proofs.RowRuns.{MayRead}
 use Rattle.lock.specs.Runs.{Made, RunWhile, task_of, was_obeyed}
@@ -275,7 +275,7 @@ module _ {M : Type 0} (does : Doing M) (limit : ℕ) where
     answers : (c : Call) (a : Answer) (y : State) (p : M) → Calls does limit c z n a y p → was_obeyed a ≡ true → AnswersSo s.number c a
     answers c a y p call o = subst (λ x. AnswersSo x c a) (run_frame P es s z m n able run).number ((call_left c z y n p a now call).answers o)
 
-    pub granted : (c : Call) (a : Answer) (y : State) (p : M) → Calls does limit c z n a y p → (was_obeyed a ≡ true → NeedsBy c × AnswersSo s.number c a) × (NeedsBy c → (was_obeyed a ≡ true) ⊎ IsDamaged c a)
+    pub granted : (c : Call) (a : Answer) (y : State) (p : M) → Calls does limit c z n a y p → (was_obeyed a ≡ true → NeedsBy c × AnswersSo s.number c a) × (NeedsBy c → (was_obeyed a ≡ true) ⊎ RefusedAsDamaged c a)
     granted c a y p call = (
       (λ o. (by_run c ((call_left c z y n p a now call).needs o), answers c a y p call o)),
       (λ h. obeyed_clear c (judge c z) z y a (call_kept does limit c z y n p a now call).obeyed (judged_clear c z now.lawful.opened (in_state c h))),

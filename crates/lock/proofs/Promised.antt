@@ -103,7 +103,7 @@ module _ {M : Type 0} (does : Doing M) (limit : ℕ) (s : State) (m : M) (number
             let second = read_told does limit y y' p p' v j t row b (of_row does limit y y' p p' v j t row b call' of') call' in
             let still = table_still does limit t ds z' y n' p (subst (Able limit) (sym first.1) g1) (pass_there z w k t g1.lawful may.0).low during in
             second.0 ∙ ap (λ xs. row_answer (get_or xs row 0)) (still ∙ ap (λ (x : State). x.table) first.1) ∙ sym first.0;
-        granted_calls = λ es z n run c a y p call. granted does limit s first g _ es z m n run c a y p call;
+        obeyed_calls = λ es z n run c a y p call. granted does limit s first g _ es z m n run c a y p call;
         passes = λ es z n run t low. passes does limit s first g _ es z m n run t low;
         counted_accounts = λ es z n run t low. counts does limit s first g _ es z m n run t low;
         charged_accounts = λ es z n run c a y p call. charged_account does limit c z y n p a (able es z n run) call;

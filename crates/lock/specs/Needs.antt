@@ -52,6 +52,6 @@ IsRefused (gives o) k = ⊥
 IsRefused (no e) k = refusal_number e ≡ k
 
 -- the only refusal that can come of a call that has what it needs: of a read, that the row is damaged
-abbrev pub IsDamaged : Call → Answer → Type 0
-IsDamaged (read w k t row) a = IsRefused a 32
-IsDamaged c a = ⊥
+abbrev pub RefusedAsDamaged : Call → Answer → Type 0
+RefusedAsDamaged (read w k t row) a = IsRefused a 32
+RefusedAsDamaged c a = ⊥

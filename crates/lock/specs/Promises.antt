@@ -29,7 +29,7 @@ use Rattle.lock.specs.Copying.{ChargesByCopies}
 use Rattle.lock.specs.Counted.{CostsOne, counted_run}
 use Rattle.lock.specs.History.{history}
 use Rattle.lock.specs.Model.{model_run, unpaid}
-use Rattle.lock.specs.Needs.{AnswersSo, IsDamaged, Needs}
+use Rattle.lock.specs.Needs.{AnswersSo, RefusedAsDamaged, Needs}
 use Rattle.lock.specs.OneLine.{Did, deed_done, line_done}
 use Rattle.lock.specs.Rows.{IsOfRow, Reads, last_put}
 use Rattle.lock.specs.Runs.{Made, Run, RunWhile, task_of, was_obeyed}
@@ -117,12 +117,12 @@ module _ {M : Type 0} (does : Doing M) (limit : ℕ) (s : State) (m : M) where
       (ds : List Made) (y : State) (p : M) → RunWhile does limit (λ x. HasRight x t Reading) ds z' n' y p →
       (v : Right) (j : ℕ) (b : Answer) (y' : State) (p' : M) → Calls does limit (read v j t row) y p b y' p' → IsOfRow b → b ≡ a)
 
-  -- Granted calls: a call that is obeyed has what it needs, and answers as it was asked; one that has it is obeyed, but for a read of a
+  -- Obeyed calls: a call that is obeyed has what it needs, and answers as it was asked; one that has it is obeyed, but for a read of a
   -- damaged row.
-  abbrev pub GrantedCalls : Type 0
-  GrantedCalls =
+  abbrev pub ObeyedCalls : Type 0
+  ObeyedCalls =
       AlwaysNext (λ es z n c a y p. (was_obeyed a ≡ true → NeedsNow es z c × AnswersSo s.number c a)
-      × (NeedsNow es z c → (was_obeyed a ≡ true) ⊎ IsDamaged c a))
+      × (NeedsNow es z c → (was_obeyed a ≡ true) ⊎ RefusedAsDamaged c a))
 
   -- Passes: the pass that is out to a task is the one that the calls made say; it is for the right that the task has, and beside one for
   -- the writing right no other is out. (A second one is never handed out to a task: see what take needs.)
@@ -182,7 +182,7 @@ module _ {M : Type 0} (does : Doing M) (limit : ℕ) (s : State) (m : M) where
     pub exclusion : Exclusion
     pub measured_rows : MeasuredRows
     pub steady_rows : SteadyRows
-    pub granted_calls : GrantedCalls
+    pub obeyed_calls : ObeyedCalls
     pub passes : Passes
     pub counted_accounts : CountedAccounts
     pub charged_accounts : ChargedAccounts
