@@ -4,6 +4,7 @@ ghost use Rattle.cache.specs.Layers.{cached};
 ghost use Rattle.lock.specs.Answering.{Answering, Total};
 ghost use Rattle.lock.specs.AnswerCases.{AnswerCases, OpenCases};
 ghost use Rattle.lock.specs.AloneCases.{AloneCases};
+ghost use Rattle.lock.specs.QuestionCases.{CheckCases, QuestionCases};
 ghost use Rattle.lock.specs.WaitingCases.{WaitingCases};
 
 use cache::layer::Cache;
@@ -18,6 +19,8 @@ pub fn cases_hold()
     ensures waiting { WaitingCases ⟦<Words as Memory>⟧ × WaitingCases ⟦<Packed as Memory>⟧ }
     ensures answers { AnswerCases ⟦<Words as Memory>⟧ × AnswerCases ⟦<Packed as Memory>⟧ }
     ensures opening { OpenCases }
+    ensures questions { QuestionCases ⟦<Words as Memory>⟧ × QuestionCases ⟦<Packed as Memory>⟧ }
+    ensures checks { CheckCases }
 {}
 
 /// No statement over runs is empty: a lock can be opened, and from each state each call has an answer and a next state, and each list
