@@ -13,7 +13,8 @@ use packed::word::Packed;
 use words::array::Words;
 
 /// The worked cases: runs of lock 1 over the cache layer on Words and on Packed, with cells, places and costs at their end, and in
-/// which each answer and each refusal of the lock occurs. Takes nothing, refuses nothing, does nothing.
+/// which each answer and each refusal of the lock occurs, and what the questions tell then; and states that the check of a state is
+/// asked about. Takes nothing, refuses nothing, does nothing.
 pub fn cases_hold()
     ensures alone { AloneCases ⟦<Words as Memory>⟧ × AloneCases ⟦<Packed as Memory>⟧ }
     ensures waiting { WaitingCases ⟦<Words as Memory>⟧ × WaitingCases ⟦<Packed as Memory>⟧ }
