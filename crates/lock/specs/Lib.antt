@@ -17,4 +17,5 @@ pub mod Cases
 pub mod AloneCases
 pub mod WaitingCases
 pub mod AnswerCases
+pub mod QuestionCases
 pub mod Answering

@@ -4,6 +4,7 @@ ghost use Rattle.cache.specs.Layers.{cached};
 ghost use Rattle.lock.specs.Answering.{Answering, Total};
 ghost use Rattle.lock.specs.AnswerCases.{AnswerCases, OpenCases};
 ghost use Rattle.lock.specs.AloneCases.{AloneCases};
+ghost use Rattle.lock.specs.QuestionCases.{CheckCases, QuestionCases};
 ghost use Rattle.lock.specs.WaitingCases.{WaitingCases};
 
 use cache::layer::Cache;
@@ -12,12 +13,15 @@ use packed::word::Packed;
 use words::array::Words;
 
 /// The worked cases: runs of lock 1 over the cache layer on Words and on Packed, with cells, places and costs at their end, and in
-/// which each answer and each refusal of the lock occurs. Takes nothing, refuses nothing, does nothing.
+/// which each answer and each refusal of the lock occurs, and what the questions tell then; and states that the check of a state is
+/// asked about. Takes nothing, refuses nothing, does nothing.
 pub fn cases_hold()
     ensures alone { AloneCases ⟦<Words as Memory>⟧ × AloneCases ⟦<Packed as Memory>⟧ }
     ensures waiting { WaitingCases ⟦<Words as Memory>⟧ × WaitingCases ⟦<Packed as Memory>⟧ }
     ensures answers { AnswerCases ⟦<Words as Memory>⟧ × AnswerCases ⟦<Packed as Memory>⟧ }
     ensures opening { OpenCases }
+    ensures questions { QuestionCases ⟦<Words as Memory>⟧ × QuestionCases ⟦<Packed as Memory>⟧ }
+    ensures checks { CheckCases }
 {}
 
 /// No statement over runs is empty: a lock can be opened, and from each state each call has an answer and a next state, and each list

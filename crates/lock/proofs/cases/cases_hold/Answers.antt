@@ -7,7 +7,7 @@ use Rattle.words.specs.declared.array.Words.{Words}
 use Rattle.words.proofs.Takes.{new_words, words_take}
 use Rattle.lock.proofs.Answering.{stored, stored_law, stored_total}
 use Rattle.lock.proofs.CaseRuns.{CaseMemory}
-use Rattle.lock.proofs.Computed.{alone, answers, opening, waiting}
+use Rattle.lock.proofs.Computed.{alone, answers, checks, opening, questions, waiting}
 use Rattle.lock.proofs.cases.cases_hold.Goals as goal
 
 abbrev words : Words → List ℕ
@@ -53,3 +53,9 @@ returns-clause-answers c = (answers _ over_words, answers _ over_packed)
 
 pub returns-clause-opening : goal.returns-clause-opening
 returns-clause-opening c = opening
+
+pub returns-clause-questions : goal.returns-clause-questions
+returns-clause-questions c = (questions _ over_words, questions _ over_packed)
+
+pub returns-clause-checks : goal.returns-clause-checks
+returns-clause-checks c = checks
