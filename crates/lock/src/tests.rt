@@ -362,14 +362,20 @@ fn rows_of_a_writer(rt: HostRuntime) -> Result<(), Fail> {
     for _ in 0..13 {
         lock.advance(1)?;
     }
-    assert_eq!(rt; rows_read(&mut lock), [0, 1, 1000000, 32, 30, 27, 28, 0]);
+    assert_eq!(rt;
+        rows_read(&mut lock),
+        [ABSENT, 1, 1000000, 32, 30, 27, 28, 0]
+    );
     Ok(())
 }
+
+// What stands for a row that is read as absent: neither a thickness nor the number of a refusal.
+const ABSENT: u32 = 4294967295;
 
 fn row_of(lock: &Lock<'_, Cache<Words>, Ring>, pass: &WritePass, row: usize) -> u32 {
     match lock.read(pass, row) {
         Ok(Some(thickness)) => thickness,
-        Ok(None) => 0,
+        Ok(None) => ABSENT,
         Err(why) => why.number(),
     }
 }
