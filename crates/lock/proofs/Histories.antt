@@ -1,37 +1,31 @@
 -- What the calls made say of a task is what its record says: its pass, its changes, its attempts and what they cost.
-use Rattle.std.proofs.Common.{◌≡◌, ℕ, ◌+◌, ◌-◌, ◌<◌, ◌≤◌, ◌≢◌, ◌⊎◌, true, false, cond, min, ◌&&◌, eqb, ltb, List, [], ◌∷◌, length, get_or, set, Some, None, Option, sym, refl, ap, ◌∙◌, subst, inl, inr, arith}
+use Rattle.std.proofs.Common.{◌≡◌, ℕ, ◌+◌, ◌-◌, ◌<◌, ◌≤◌, ◌≢◌, ◌⊎◌, true, false, cond, min, eqb, ltb, List, [], ◌∷◌, length, get_or, set, Some, None, Option, sym, refl, ap, ◌∙◌, subst, inl, inr, arith}
 use Rattle.std.proofs.lemmas.Bool.{cases_eq, eq-eqb, false≢true, ltb-true, ne_eqb}
 use Rattle.std.proofs.lemmas.List.{get_or-set_same, get_or-set_other, length-set}
 use Rattle.memory.specs.Calls.{Doing}
-use Rattle.lines.specs.declared.deed.Deed.{Deed}
-use Rattle.lines.specs.declared.deed.Deed.TheVariants.{Touch, Join, First, Quit, Nothing}
 use Rattle.lines.specs.declared.deed.Found.{Found}
-use Rattle.lines.specs.declared.place.Place.{Place}
-use Rattle.lines.specs.declared.place.Place.TheVariants.{Rest, Inside, Next}
 use Rattle.lines.specs.declared.place.Right.{Right}
 use Rattle.lines.specs.declared.place.Right.TheVariants.{Reading, Writing}
 use Rattle.lines.specs.declared.place.Role.TheVariants.{Reader}
 use Rattle.lines.specs.Deeds.{finds}
 use Rattle.lines.specs.Lines.{next_deed}
 use Rattle.lines.specs.Rights.{right_of}
-use Rattle.calls.specs.declared.account.Account.{Account}
 use Rattle.calls.specs.declared.record.Record.{Record}
 use Rattle.calls.specs.declared.refusal.Refusal.{Refusal}
 use Rattle.calls.specs.declared.refusal.Refusal.TheVariants.{Upgrades}
 use Rattle.calls.specs.Accounts.{charged}
 use Rattle.calls.specs.Questions.{advance_refusal, begin_refusal, out_for, pass_refusal, row_refusal, take_refusal, task_refusal, thickness_refusal, upgrade_refusal}
-use Rattle.calls.specs.Records.{arrived, begun, downgrading, fresh, leaving, settled, upgrading, with_out}
+use Rattle.calls.specs.Records.{begun, downgrading, fresh, leaving, settled, upgrading, with_out}
 use Rattle.calls.specs.States.{State, record_of, with_record, with_row}
-use Rattle.calls.specs.Steps.{Answer, Call, Calls, Carried, LineShares, Shares, Verdict, advance, after_deed, asked, at_once, begin, done, downgrade, hands, judge, lay_back, leave, line, lined, put, read, refuse, row_answer, take, upgrade}
+use Rattle.calls.specs.Steps.{Answer, Call, Calls, Carried, Verdict, advance, asked, at_once, begin, done, downgrade, hands, judge, lay_back, leave, line, put, read, refuse, row_answer, take, upgrade}
 use Rattle.calls.proofs.Obeyed.{call_same, yes}
 use Rattle.calls.proofs.Sound.{has_out, parts}
-use Rattle.lock.specs.Charges.{Charges, Counts, Finishes, TellsShare, cost_after, cost_made, unfinished}
+use Rattle.lock.specs.Charges.{Counts, Finishes, cost_after, unfinished}
 use Rattle.lock.specs.History.{History, history, history_from, made_in, nothing_yet, obeyed_in}
 use Rattle.lock.specs.Needs.{AnswersSo, RefusedAsDamaged, Needs}
 use Rattle.lock.specs.Promises.{HasRight}
 use Rattle.lock.proofs.RowRuns.{MayRead}
 use Rattle.lock.specs.Runs.{Made, RunWhile, task_of, was_obeyed}
-use Rattle.lock.proofs.Allowed.{allowed}
 use Rattle.lock.proofs.Judged.{Holding, Lawful, pass_there, task_there}
 use Rattle.lock.proofs.Meant.{Meant, meant}
 use Rattle.lock.proofs.Runs.{Able, Obeyed, call_able, call_kept, no_right_beside, none_of, run_able}

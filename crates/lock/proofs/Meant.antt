@@ -1,5 +1,5 @@
 -- What each call comes to on a lock whose facts hold: a refusal of its own, a line that is due, or an answer that leaves all tasks where they are.
-use Rattle.std.proofs.Common.{◌≡◌, ℕ, ◌-◌, ◌≤◌, Bool, true, false, eqb, leb, ltb, length, get_or, Some, None, Option, refl, inl, inr, lit≤}
+use Rattle.std.proofs.Common.{◌≡◌, ℕ, ◌-◌, Bool, true, false, eqb, leb, ltb, length, get_or, Some, None, Option, refl, inl, inr, lit≤}
 use Rattle.std.proofs.lemmas.Bool.{cases_Bool}
 use Rattle.lines.specs.declared.place.Place.{Place}
 use Rattle.lines.specs.declared.place.Place.TheVariants.{Rest, Inside, Next}

@@ -1,5 +1,5 @@
 -- A lock just opened keeps every promise.
-use Rattle.std.proofs.Common.{◌≡◌, ℕ, zero, suc, ◌-◌, ◌<◌, ◌≤◌, ◌≢◌, ◌⊎◌, ◌↔◌, Bool, true, false, not, eqb, leb, List, [], ◌∷◌, length, get_or, map, ltb, IsOk, Some, None, Ok, Err, Option, Result, sym, refl, ap, ◌∙◌, subst, inl, inr, arith}
+use Rattle.std.proofs.Common.{◌≡◌, ℕ, zero, suc, ◌-◌, ◌<◌, ◌≤◌, ◌≢◌, ◌⊎◌, ◌↔◌, true, not, eqb, leb, List, [], ◌∷◌, length, get_or, map, ltb, IsOk, Some, None, Option, Result, sym, refl, ap, ◌∙◌, subst, inl, inr, arith}
 use Rattle.std.proofs.lemmas.Bool.{and_from, and_parts, eqb-true, false≢true, le-leb, leb-true}
 use Rattle.memory.specs.Calls.{Doing}
 use Rattle.lines.specs.declared.place.Role.{Role}

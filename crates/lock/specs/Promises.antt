@@ -1,5 +1,5 @@
 -- What an opened lock promises. s is its state when it was opened and m its memory then; each promise speaks of every run from there.
-use Rattle.std.specs.Prelude.{◌≡◌, ℕ, ◌+◌, ◌*◌, ◌≤◌, ◌⊎◌, ◌↔◌, true, false, cond, List, [], ◌∷◌, length, map, Some, None, Option, Ok, ◌≢◌, slice_index, ◌==◌}
+use Rattle.std.specs.Prelude.{◌≡◌, ℕ, ◌+◌, ◌*◌, ◌≤◌, ◌⊎◌, ◌↔◌, true, false, cond, List, [], ◌∷◌, length, map, Some, None, Ok, ◌≢◌, slice_index, ◌==◌}
 use Rattle.memory.specs.declared.interface.Memory.{Ghosts as MemoryGhosts}
 use Rattle.memory.specs.Calls.{Doing}
 use Rattle.cache.specs.declared.layer.Cache.{Cache}
