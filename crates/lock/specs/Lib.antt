@@ -19,3 +19,5 @@ pub mod WaitingCases
 pub mod AnswerCases
 pub mod QuestionCases
 pub mod Answering
+pub mod ByTask
+pub mod Exact

@@ -1,0 +1,78 @@
+-- The calls by task: each takes the pass that the task's right allows, uses it, and lays back what is left. Each is a plan of the
+-- nine calls.
+use Rattle.std.specs.Prelude.{◌≡◌, ℕ, List, Some, None, Ok, Err, Option, Result}
+use Rattle.memory.specs.declared.interface.Memory.{Ghosts as MemoryGhosts}
+use Rattle.queue.specs.declared.interface.Queue.{Ghosts as QueueGhosts}
+use Rattle.lines.specs.declared.place.Right.{Right}
+use Rattle.lines.specs.declared.place.Right.TheVariants.{Reading, Writing}
+use Rattle.calls.specs.declared.refusal.Refusal.{Refusal}
+use Rattle.calls.specs.declared.refusal.Refusal.TheVariants.{Outside}
+use Rattle.calls.specs.Steps.{Answer, Call, done, downgrade, gives, hands, lay_back, leave, no, put, read, take, upgrade}
+use Rattle.lock.specs.declared.locks.Lock.{Lock}
+use Rattle.lock.specs.Runs.{Made, Run}
+use Rattle.lock.specs.View.{Does, view}
+
+-- A plan: calls made one after another. What is called next may depend on what was answered.
+pub data Plan : Type 0 where
+  -- no more is called, and this is the answer of the whole
+  ends : Answer → Plan
+  makes : Call → (Answer → Plan) → Plan
+
+-- one call alone
+abbrev pub once : Call → Plan
+once c = makes c ends
+
+-- a call that spends the pass: where it is refused the pass came back, and is laid back
+abbrev pub laid_where_refused : Right → ℕ → ℕ → Answer → Plan
+laid_where_refused w k t (no e) = makes (lay_back w k t) (λ _. ends (no e))
+laid_where_refused w k t done = ends done
+laid_where_refused w k t (hands v j u) = ends (hands v j u)
+laid_where_refused w k t (gives row) = ends (gives row)
+
+abbrev pub spends : Right → ℕ → ℕ → Call → Plan
+spends w k t c = makes c (laid_where_refused w k t)
+
+-- a call that shows the pass, which is then laid back whatever was answered
+abbrev pub shows : Right → ℕ → ℕ → Call → Plan
+shows w k t c = makes c (λ a. makes (lay_back w k t) (λ _. ends a))
+
+-- a pass for the right w is taken for task t and used; where it is refused, that is all
+abbrev pub used : (ℕ → ℕ → Plan) → Answer → Plan
+used use (hands w k t) = use k t
+used use (no e) = ends (no e)
+used use done = ends done
+used use (gives row) = ends (gives row)
+
+abbrev pub with_pass : Right → ℕ → (ℕ → ℕ → Plan) → Plan
+with_pass w t use = makes (take w t) (used use)
+
+-- by whichever right the task has, as the question on it told; a task that is not inside has none
+abbrev pub by_right : Result (Option Right) Refusal → (Right → Plan) → Plan
+by_right (Ok (Some w)) p = p w
+by_right (Ok None) p = ends (no Outside)
+by_right (Err e) p = ends (no e)
+
+abbrev pub upgrade_plan : ℕ → Plan
+upgrade_plan t = with_pass Reading t (λ k u. spends Reading k u (upgrade k u))
+
+abbrev pub downgrade_plan : ℕ → Plan
+downgrade_plan t = with_pass Writing t (λ k u. spends Writing k u (downgrade k u))
+
+abbrev pub leave_plan : Result (Option Right) Refusal → ℕ → Plan
+leave_plan told t = by_right told (λ w. with_pass w t (λ k u. spends w k u (leave w k u)))
+
+abbrev pub read_plan : Result (Option Right) Refusal → ℕ → ℕ → Plan
+read_plan told t row = by_right told (λ w. with_pass w t (λ k u. shows w k u (read w k u row)))
+
+abbrev pub put_plan : ℕ → ℕ → ℕ → Plan
+put_plan t row n = with_pass Writing t (λ k u. shows Writing k u (put k u row n))
+
+module _ {M Q : Type 0} (mem : MemoryGhosts M) (que : QueueGhosts Q) where
+  -- the lock follows the plan from l to l', which answers a: each call does what its own contract says
+  abbrev pub Follows : Plan → Lock M Q → Answer → Lock M Q → Type 0
+  Follows (ends b) l a l' = (a ≡ b) × (l' ≡ l)
+  Follows (makes c next) l a l' = (b : Answer) × (m : Lock M Q) × Does mem que c l b m × Follows (next b) m a l'
+
+  -- some calls lead from l to l', as a run of the nine calls: what the openings promise of runs holds of it
+  abbrev pub Runs : Lock M Q → Lock M Q → Type 0
+  Runs l l' = (es : List Made) × Run mem.does mem.limit es (view mem que l) l.memory (view mem que l') l'.memory
