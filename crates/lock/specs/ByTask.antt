@@ -38,13 +38,13 @@ shows w k t c = makes c (λ a. makes (lay_back w k t) (λ _. ends a))
 
 -- a pass for the right w is taken for task t and used; where it is refused, that is all
 abbrev pub used : (ℕ → ℕ → Plan) → Answer → Plan
-used use (hands w k t) = use k t
-used use (no e) = ends (no e)
-used use done = ends done
-used use (gives row) = ends (gives row)
+used f (hands w k t) = f k t
+used f (no e) = ends (no e)
+used f done = ends done
+used f (gives row) = ends (gives row)
 
 abbrev pub with_pass : Right → ℕ → (ℕ → ℕ → Plan) → Plan
-with_pass w t use = makes (take w t) (used use)
+with_pass w t f = makes (take w t) (used f)
 
 -- by whichever right the task has, as the question on it told; a task that is not inside has none
 abbrev pub by_right : Result (Option Right) Refusal → (Right → Plan) → Plan

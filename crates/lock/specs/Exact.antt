@@ -1,13 +1,15 @@
 -- What calls come to over the cache layer, where each operation of the memory below costs 1: one function, for every state.
-use Rattle.std.specs.Prelude.{◌≡◌, ℕ, List, Some, None, Option}
+use Rattle.std.specs.Prelude.{◌≡◌, ℕ, List, Some, None, Ok, Err, Option, Result}
 use Rattle.cache.specs.declared.layer.Cache.{Cache}
 use Rattle.cache.specs.Layers.{cached}
 use Rattle.memory.specs.declared.interface.Memory.{Ghosts as MemoryGhosts}
+use Rattle.memory.specs.Cells.{zeros}
 use Rattle.queue.specs.declared.interface.Queue.{Ghosts as QueueGhosts}
 use Rattle.lines.specs.declared.deed.Deed.{Deed}
 use Rattle.lines.specs.Lines.{next_deed}
 use Rattle.calls.specs.declared.record.Record.{Record}
 use Rattle.calls.specs.declared.refusal.Refusal.{Refusal}
+use Rattle.calls.specs.Opening.{open_refusal, opened_to}
 use Rattle.calls.specs.Steps.{Answer, Call, Verdict, at_once, carry_out, deed_refusal, judge, line, refuse}
 use Rattle.lock.specs.declared.locks.Lock.{Lock}
 use Rattle.lock.specs.ByTask.{Plan, ends, makes}
@@ -41,6 +43,14 @@ exact limit c x =
 abbrev pub followed : ℕ → Plan → Counted → Answer × Counted
 followed limit (ends a) x = (a, x)
 followed limit (makes c next) x = followed limit (next (exact limit c x).0) (exact limit c x).1
+
+-- an opening, which empties the copies: its result, and the state and the copies then
+abbrev pub opens_exactly : Option Refusal → List ℕ → Counted → Result (Unit {0}) Refusal × Counted
+opens_exactly None roles x = (Ok tt, record { state = opened_to roles x.state; masks = zeros })
+opens_exactly (Some e) roles x = (Err e, x)
+
+abbrev pub exact_opening : ℕ → List ℕ → Counted → Result (Unit {0}) Refusal × Counted
+exact_opening limit roles x = opens_exactly (open_refusal limit 1 x.state roles) roles x
 
 -- a lock over the cache layer, as that function sees it
 abbrev pub seen : {B Q : Type 0} → MemoryGhosts B → QueueGhosts Q → Lock (Cache B) Q → Counted
