@@ -1,13 +1,21 @@
--- What a desk answers, and what it leaves of its four locks.
-use Rattle.std.specs.Prelude.{◌≡◌, cond, is_ok, Some, None, Err, Option, Result}
+-- What a desk is: a board, which tells the pair of memory and queue that was chosen, and its four locks as calls see them.
 use Rattle.std.specs.Borrow.{MutBor}
-use Rattle.cache.specs.declared.layer.Cache.{Cache}
+use Rattle.std.specs.Prelude.{◌≡◌, ℕ, false, cond, is_ok, List, [], Some, None, Err, Option, Result}
 use Rattle.memory.specs.declared.interface.Memory.{Ghosts as MemoryGhosts}
-use Rattle.cache.specs.Layers.{cached}
+use Rattle.memory.specs.Cells.{zeros}
+use Rattle.memory.specs.Operations.{after}
+use Rattle.masks.specs.declared.before.Masks.{Masks as MasksQueue}
+use Rattle.masks.specs.Sets.{waiting_of}
+use Rattle.packed.specs.declared.word.Packed.{Packed as PackedMemory}
+use Rattle.packed.specs.Fields.{fields}
 use Rattle.queue.specs.declared.interface.Queue.{Ghosts as QueueGhosts}
+use Rattle.queue.specs.declared.ring.Ring.{Ring as RingQueue}
+use Rattle.queue.specs.Round.{round}
+use Rattle.words.specs.declared.array.Words.{Words as WordsMemory}
 use Rattle.calls.specs.declared.refusal.Refusal.{Refusal}
 use Rattle.calls.specs.declared.refusal.Refusal.TheVariants.{Shut}
-use Rattle.lock.specs.declared.locks.Lock.{Lock}
+use Rattle.lock.specs.Counted.{Counted}
+use Rattle.lock.specs.Exact.{seen}
 use Rattle.script.specs.declared.call.MemoryKind.{MemoryKind}
 use Rattle.script.specs.declared.call.MemoryKind.TheVariants.{Words, Packed}
 use Rattle.script.specs.declared.call.QueueKind.{QueueKind}
@@ -16,7 +24,33 @@ use Rattle.script.specs.Calls.{Ask, opening, begin, advance, upgrade, downgrade,
 use Rattle.listing.specs.declared.answer.Answer.{Answer}
 use Rattle.schedule.specs.declared.desk.Desk.{Desk}
 use Rattle.schedule.specs.declared.desk.Pair.{Pair}
-use Rattle.schedule.specs.Answers.{Tells}
+use Rattle.schedule.specs.Answers.{tell}
+
+pub record Board : Type 0 where
+  pub chosen : Option Pair
+  pub words_ring : Counted
+  pub words_masks : Counted
+  pub packed_ring : Counted
+  pub packed_masks : Counted
+
+-- the lock of a pair
+abbrev pub lock_of : MemoryKind → QueueKind → Board → Counted
+lock_of Words Ring b = b.words_ring
+lock_of Words Masks b = b.words_masks
+lock_of Packed Ring b = b.packed_ring
+lock_of Packed Masks b = b.packed_masks
+
+-- the board with this as the lock of the pair, and this pair chosen
+abbrev pub with_lock : MemoryKind → QueueKind → Counted → Option Pair → Board → Board
+with_lock Words Ring x c b = record { chosen = c; words_ring = x; words_masks = b.words_masks; packed_ring = b.packed_ring; packed_masks = b.packed_masks }
+with_lock Words Masks x c b = record { chosen = c; words_ring = b.words_ring; words_masks = x; packed_ring = b.packed_ring; packed_masks = b.packed_masks }
+with_lock Packed Ring x c b = record { chosen = c; words_ring = b.words_ring; words_masks = b.words_masks; packed_ring = x; packed_masks = b.packed_masks }
+with_lock Packed Masks x c b = record { chosen = c; words_ring = b.words_ring; words_masks = b.words_masks; packed_ring = b.packed_ring; packed_masks = x }
+
+-- the largest number of a cell
+abbrev pub limit_of : MemoryKind → ℕ
+limit_of Words = 4294967295
+limit_of Packed = 15
 
 -- the pair to which a call goes: the one that was chosen, or the one that O names
 abbrev pub pair_for : Option Pair → Ask → Option Pair
@@ -30,42 +64,69 @@ pair_for None (leave t) = None
 pair_for None (read t row) = None
 pair_for None (put t row n) = None
 
--- a lock that is as it was
-abbrev pub Same : {L : Type 0} → MutBor L → MutBor L → Type 0
-Same l l' = (l'.now ≡ l.now) × (l'.ghost_name ≡ l.ghost_name)
+-- a call made at the board: before an O is obeyed any other is refused 10, and an obeyed O has chosen its pair
+abbrev pub tell_at : Option Pair → Ask → Board → Result Answer Refusal × Board
+tell_at None a b = (Err Shut, b)
+tell_at (Some p) a b =
+    let r = tell (limit_of p.memory) a (lock_of p.memory p.queue b) in
+    (r.0, with_lock p.memory p.queue r.1 (cond (is_ok r.0) (Some p) b.chosen) b)
 
-module _ {W P R K : Type 0} where
-  -- a desk over four locks, none of them chosen
-  pub record DeskOver (a : MutBor (Lock (Cache W) R)) (b : MutBor (Lock (Cache W) K)) (c : MutBor (Lock (Cache P) R)) (e : MutBor (Lock (Cache P) K)) (d : Desk W P R K) : Type 0 where
-    pub none : d.chosen ≡ None
-    pub first : Same a d.words_ring
-    pub second : Same b d.words_masks
-    pub third : Same c d.packed_ring
-    pub fourth : Same e d.packed_masks
+abbrev pub board_tells : Ask → Board → Result Answer Refusal × Board
+board_tells a b = tell_at (pair_for b.chosen a) a b
 
-module _ {W P R K : Type 0} (w : MemoryGhosts W) (p : MemoryGhosts P) (r : QueueGhosts R) (k : QueueGhosts K) where
-  -- the call a is made to one lock, over which it tells o; the others stay as they are
-  abbrev pub KindsTell : MemoryKind → QueueKind → Desk W P R K → Ask → Result Answer Refusal → Desk W P R K → Type 0
-  KindsTell Words Ring d a o d' =
-      Tells (cached w) r d.words_ring.now a o d'.words_ring.now × (d'.words_ring.ghost_name ≡ d.words_ring.ghost_name)
-      × Same d.words_masks d'.words_masks × Same d.packed_ring d'.packed_ring × Same d.packed_masks d'.packed_masks
-  KindsTell Words Masks d a o d' =
-      Tells (cached w) k d.words_masks.now a o d'.words_masks.now × (d'.words_masks.ghost_name ≡ d.words_masks.ghost_name)
-      × Same d.words_ring d'.words_ring × Same d.packed_ring d'.packed_ring × Same d.packed_masks d'.packed_masks
-  KindsTell Packed Ring d a o d' =
-      Tells (cached p) r d.packed_ring.now a o d'.packed_ring.now × (d'.packed_ring.ghost_name ≡ d.packed_ring.ghost_name)
-      × Same d.words_ring d'.words_ring × Same d.words_masks d'.words_masks × Same d.packed_masks d'.packed_masks
-  KindsTell Packed Masks d a o d' =
-      Tells (cached p) k d.packed_masks.now a o d'.packed_masks.now × (d'.packed_masks.ghost_name ≡ d.packed_masks.ghost_name)
-      × Same d.words_ring d'.words_ring × Same d.words_masks d'.words_masks × Same d.packed_ring d'.packed_ring
+-- Lock 1, closed, over these rows, with nobody's copies.
+abbrev pub closed : List ℕ → Counted
+closed rows = record { state = record { number = 1; opened = false; cells = zeros; waiting = []; records = []; table = rows }; masks = zeros }
 
-  abbrev pub PairTells : Pair → Desk W P R K → Ask → Result Answer Refusal → Desk W P R K → Type 0
-  PairTells x d a o d' = KindsTell x.memory x.queue d a o d' × (d'.chosen ≡ d.chosen)
+abbrev pub closed_board : List ℕ → List ℕ → List ℕ → List ℕ → Board
+closed_board a b c d = record { chosen = None; words_ring = closed a; words_masks = closed b; packed_ring = closed c; packed_masks = closed d }
 
-  abbrev pub DeskTellsAt : Option Pair → Desk W P R K → Ask → Result Answer Refusal → Desk W P R K → Type 0
-  DeskTellsAt None d a o d' = (o ≡ Err Shut) × (d' ≡ d)
-  DeskTellsAt (Some x) d a o d' = KindsTell x.memory x.queue d a o d' × (d'.chosen ≡ cond (is_ok o) (Some x) d.chosen)
+-- Words and Packed as memories, each operation at a share of 1, and Ring and Masks as queues.
 
-  -- the call a, made at the desk d, gives o and leaves the desk so: an obeyed call has chosen its lock
-  abbrev pub DeskTells : Desk W P R K → Ask → Result Answer Refusal → Desk W P R K → Type 0
-  DeskTells d a o d' = DeskTellsAt (pair_for d.chosen a) d a o d'
+abbrev pub words : MemoryGhosts WordsMemory
+words = record { LIMIT = 4294967295; limit = 4294967295; cells = λ s. s.numbers; top = λ s. 1; does = λ s t op share n. (n.numbers ≡ after op s.numbers) × (share ≡ 1) }
+
+abbrev pub packed : MemoryGhosts PackedMemory
+packed = record { LIMIT = 15; limit = 15; cells = λ s. fields s.bits; top = λ s. 1; does = λ s t op share n. (fields n.bits ≡ after op (fields s.bits)) × (share ≡ 1) }
+
+abbrev pub ring : QueueGhosts RingQueue
+ring = record { waiting = λ s. round s.numbers s.start s.count }
+
+abbrev pub masks : QueueGhosts MasksQueue
+masks = record { waiting = λ s. waiting_of s.before s.who }
+
+-- a desk of the code, as a board
+abbrev pub board : Desk → Board
+board d =
+    record {
+      chosen = d.chosen;
+      words_ring = seen words ring d.words_ring;
+      words_masks = seen words masks d.words_masks;
+      packed_ring = seen packed ring d.packed_ring;
+      packed_masks = seen packed masks d.packed_masks;
+    }
+
+-- over the tables that were lent to it
+pub record SameTables (d e : Desk) : Type 0 where
+  pub words_ring : e.words_ring.table.ghost_name ≡ d.words_ring.table.ghost_name
+  pub words_masks : e.words_masks.table.ghost_name ≡ d.words_masks.table.ghost_name
+  pub packed_ring : e.packed_ring.table.ghost_name ≡ d.packed_ring.table.ghost_name
+  pub packed_masks : e.packed_masks.table.ghost_name ≡ d.packed_masks.table.ghost_name
+
+-- the desk d tells o of the call a and is then e
+abbrev pub DeskTells : Desk → Ask → Result Answer Refusal → Desk → Type 0
+DeskTells d a o e = ((o, board e) ≡ board_tells a (board d)) × SameTables d e
+
+-- the call a is made to the lock of the pair, which tells o, and the desk is then e; which pair is chosen stays
+abbrev pub PairTells : Pair → Desk → Ask → Result Answer Refusal → Desk → Type 0
+PairTells p d a o e =
+    (let r = tell (limit_of p.memory) a (lock_of p.memory p.queue (board d)) in (o, board e) ≡ (r.0, with_lock p.memory p.queue r.1 d.chosen (board d)))
+    × SameTables d e
+
+-- a desk over four lent tables
+pub record DeskOver (a b c e : MutBor (List ℕ)) (d : Desk) : Type 0 where
+  pub closed : board d ≡ closed_board a.now b.now c.now e.now
+  pub first : d.words_ring.table.ghost_name ≡ a.ghost_name
+  pub second : d.words_masks.table.ghost_name ≡ b.ghost_name
+  pub third : d.packed_ring.table.ghost_name ≡ c.ghost_name
+  pub fourth : d.packed_masks.table.ghost_name ≡ e.ghost_name

@@ -1,21 +1,12 @@
 -- Laws of whole schedules.
-use Rattle.std.specs.Prelude.{◌≡◌, ℕ, ◌+◌, ◌≤◌, List, [], ◌∷◌, ◌++◌, length, Result}
+use Rattle.std.specs.Prelude.{◌≡◌, ℕ, ◌≤◌, List, [], ◌∷◌, ◌++◌, length, Result}
 use Rattle.script.specs.Calls.{parse}
 use Rattle.script.specs.Cuts.{lines}
 use Rattle.schedule.specs.declared.refusal.Refusal.{Refusal}
-use Rattle.schedule.specs.Listing.{reply_bytes}
-use Rattle.schedule.specs.Meaning.{Board, first_board, listing, replied}
-use Rattle.schedule.specs.Replies.{Heard}
-
--- what each line comes to
-abbrev pub replies : Board → List (List ℕ) → List (Result Heard Refusal)
-replies b [] = []
-replies b (l ∷ ls) = (replied (parse l) b).0 ∷ replies (replied (parse l) b).1 ls
-
--- the bytes of these, where n lines went before
-abbrev pub numbered : ℕ → List (Result Heard Refusal) → List ℕ
-numbered n [] = []
-numbered n (r ∷ rs) = reply_bytes (n + 1) r ++ numbered (n + 1) rs
+use Rattle.schedule.specs.Desks.{Board}
+use Rattle.schedule.specs.Listing.{numbered}
+use Rattle.schedule.specs.Meaning.{first_board, listing}
+use Rattle.schedule.specs.Replies.{Heard, replied, replies}
 
 -- the listing is what its lines come to, with their numbers
 abbrev pub Numbered : Type 0

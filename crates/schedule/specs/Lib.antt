@@ -3,7 +3,7 @@ pub mod Answers
 pub mod Desks
 pub mod Replies
 pub mod Listing
-pub mod Gathering
 pub mod Meaning
-pub mod Boards
+pub mod Progress
+pub mod Lists
 pub mod Laws

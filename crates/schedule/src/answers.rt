@@ -1,19 +1,20 @@
-// What a call of a schedule answers, over any lock whose memory is the cache layer.
-ghost use Rattle.std.specs.Prelude.{◌≡◌};
+// What a lock whose memory is the cache layer answers to a call of a schedule.
+ghost use Rattle.std.specs.Prelude.{◌≡◌, false};
 ghost use Rattle.cache.specs.Layers.{cached};
 ghost use Rattle.calls.specs.Questions.{task_refusal};
 ghost use Rattle.calls.specs.Told.{told};
 ghost use Rattle.lock.specs.View.{view};
 ghost use Rattle.script.specs.Calls.{ask};
-ghost use Rattle.schedule.specs.Answers.{IsThere, OpensTo, Tells, done_telling, opened_telling, place_shown, row_shown, task_shown};
+ghost use Rattle.schedule.specs.Answers.{IsThere, Makes, Opens, Tells, place_shown, row_shown, task_shown};
 
-use crate::passes::{downgrade, leave, put, read, upgrade};
+use crate::serving::Serve;
 use cache::layer::Cache;
 use calls::refusal::Refusal;
 use lines::place::{Place, Right};
 use listing::answer::{Answer, Place as Shown};
 use lock::locks::Lock;
 use memory::interface::Memory;
+use memory::store::Store;
 use queue::interface::Queue;
 use script::call::Call;
 
@@ -31,7 +32,7 @@ fn shown(place: Place, right: Option<Right>) -> Shown
 
 // The place and the cost of a task.
 fn moved<M: Memory, Q: Queue>(lock: &Lock<'_, M, Q>, task: u32) -> Result<Answer, Refusal>
-    ensures { result ≡ told (task_refusal (view M.Memory Q.Queue lock.now) task) (task_shown (view M.Memory Q.Queue lock.now) task) }
+    ensures { let s = view M.Memory Q.Queue lock.now in result ≡ told (task_refusal s task) (task_shown s task) }
 {
     let account = lock.account(task)?;
     let place = lock.place(task)?;
@@ -45,7 +46,7 @@ fn row_told<M: Memory, Q: Queue>(
     task: u32,
     row: Option<u32>,
 ) -> Result<Answer, Refusal>
-    ensures { result ≡ told (task_refusal (view M.Memory Q.Queue lock.now) task) (row_shown (view M.Memory Q.Queue lock.now) task row) }
+    ensures { let s = view M.Memory Q.Queue lock.now in result ≡ told (task_refusal s task) (row_shown s task row) }
 {
     let account = lock.account(task)?;
     let place = lock.place(task)?;
@@ -67,29 +68,23 @@ enum Done {
 // Opens the lock, and tells how many tasks there then are. (Apart from the other calls, since a schedule opens seldom and
 // the new records need much room.)
 #[inline(never)]
-pub(crate) fn open<B: Memory, Q: Queue>(
-    lock: &mut Lock<'_, Cache<B>, Q>,
-    roles: &[u8],
-) -> Result<u32, Refusal>
-    ensures { OpensTo (cached B.Memory) Q.Queue roles.now lock.old (opened_telling result) lock.new }
+fn open<S: Store, Q: Queue>(lock: &mut Lock<'_, Cache<S>, Q>, roles: &[u8]) -> Result<u32, Refusal>
+    ensures { Opens ⟦<S as Memory>⟧ Q.Queue S.LIMIT lock.old roles.now result lock.new }
 {
     lock.open_cached(roles)?;
     Ok(roles.len() as u32)
 }
 
 // Makes the call to this lock.
-fn make<B: Memory, Q: Queue>(
-    lock: &mut Lock<'_, Cache<B>, Q>,
+fn make<S: Store, Q: Queue>(
+    lock: &mut Lock<'_, Cache<S>, Q>,
     call: Call<'_>,
 ) -> Result<Done, Refusal>
-    ensures tells { Tells (cached B.Memory) Q.Queue lock.old (ask call.entry) (done_telling result (view (cached B.Memory) Q.Queue lock.new)) lock.new }
-    ensures there { IsThere (view (cached B.Memory) Q.Queue lock.new) result }
+    ensures tells { Makes ⟦<S as Memory>⟧ Q.Queue S.LIMIT lock.old (ask call.entry) result lock.new }
+    ensures there { IsThere (view (cached ⟦<S as Memory>⟧) Q.Queue lock.new) result }
 {
     match call {
-        Call::Open(_, _, roles) => {
-            let tasks = open(lock, roles)?;
-            Ok(Done::Opened(tasks))
-        }
+        Call::Open(_, _, roles) => Ok(Done::Opened(open(lock, roles)?)),
         Call::Begin(task) => {
             lock.begin(task)?;
             Ok(Done::Moved(task))
@@ -99,35 +94,39 @@ fn make<B: Memory, Q: Queue>(
             Ok(Done::Moved(task))
         }
         Call::Upgrade(task) => {
-            upgrade(lock, task)?;
+            lock.upgrade_task(task)?;
             Ok(Done::Moved(task))
         }
         Call::Downgrade(task) => {
-            downgrade(lock, task)?;
+            lock.downgrade_task(task)?;
             Ok(Done::Moved(task))
         }
         Call::Leave(task) => {
-            leave(lock, task)?;
+            lock.leave_task(task)?;
             Ok(Done::Moved(task))
         }
-        Call::Read(task, row) => Ok(Done::Row(task, read(lock, task, row)?)),
+        Call::Read(task, row) => Ok(Done::Row(task, lock.read_row(task, row as usize)?)),
         Call::Put(task, row, thickness) => {
-            put(lock, task, row, thickness)?;
+            lock.put_row(task, row as usize, thickness)?;
             Ok(Done::Moved(task))
         }
     }
 }
 
-// What the call answers, made to this lock.
-pub(crate) fn answer<B: Memory, Q: Queue>(
-    lock: &mut Lock<'_, Cache<B>, Q>,
-    call: Call<'_>,
-) -> Result<Answer, Refusal>
-    ensures { Tells (cached B.Memory) Q.Queue lock.old (ask call.entry) result lock.new }
-{
-    match make(lock, call)? {
-        Done::Opened(tasks) => Ok(Answer::Opened(tasks)),
-        Done::Moved(task) => moved(lock, task),
-        Done::Row(task, row) => row_told(lock, task, row),
+impl<S: Store, Q: Queue> Serve for Lock<'_, Cache<S>, Q> {
+    ghost serves = { Tells ⟦<S as Memory>⟧ Q.Queue S.LIMIT };
+
+    ghost done = { λ l. false };
+
+    fn answer(&mut self, call: Call<'_>) -> Result<Answer, Refusal> {
+        match make(self, call)? {
+            Done::Opened(tasks) => Ok(Answer::Opened(tasks)),
+            Done::Moved(task) => moved(self, task),
+            Done::Row(task, row) => row_told(self, task, row),
+        }
+    }
+
+    fn is_done(&self) -> bool {
+        false
     }
 }

@@ -2,21 +2,25 @@
 // queue that O may name. The first O that is obeyed picks its lock, and all calls from then on go to it.
 use cache::layer::Cache;
 use lock::locks::Lock;
+use masks::before::Masks;
+use packed::word::Packed;
+use queue::ring::Ring;
 use script::call::{MemoryKind, QueueKind};
+use words::array::Words;
 
-// A memory and a queue.
+/// A memory and a queue.
 #[derive(Clone, Copy)]
 pub struct Pair {
     pub memory: MemoryKind,
     pub queue: QueueKind,
 }
 
-// W and P are the memories of the letters w and p, R and K the queues of the letters r and m.
+/// Four locks, over four tables that are lent to the desk for as long as it lives, and the pair that was chosen.
 #[derive(Drop)]
-pub struct Desk<'b, 'a, W, P, R, K> {
+pub struct Desk<'a> {
     pub(crate) chosen: Option<Pair>,
-    pub(crate) words_ring: &'b mut Lock<'a, Cache<W>, R>,
-    pub(crate) words_masks: &'b mut Lock<'a, Cache<W>, K>,
-    pub(crate) packed_ring: &'b mut Lock<'a, Cache<P>, R>,
-    pub(crate) packed_masks: &'b mut Lock<'a, Cache<P>, K>,
+    pub(crate) words_ring: Lock<'a, Cache<Words>, Ring>,
+    pub(crate) words_masks: Lock<'a, Cache<Words>, Masks>,
+    pub(crate) packed_ring: Lock<'a, Cache<Packed>, Ring>,
+    pub(crate) packed_masks: Lock<'a, Cache<Packed>, Masks>,
 }

@@ -1,83 +1,81 @@
 // The calls of a schedule at the desk.
-ghost use Rattle.std.specs.Prelude.{◌≡◌, None, Some};
-ghost use Rattle.script.specs.Calls.{ask, opening};
-ghost use Rattle.schedule.specs.Desks.{DeskOver, DeskTells, DeskTellsAt, PairTells};
+ghost use Rattle.std.specs.Prelude.{◌≡◌, is_some};
+ghost use Rattle.script.specs.Calls.{ask};
+ghost use Rattle.schedule.specs.Desks.{DeskOver, DeskTells, PairTells, pair_for};
 
-use crate::answers::{answer, open};
 use crate::desk::{Desk, Pair};
+use crate::serving::Serve;
 use cache::layer::Cache;
 use calls::refusal::Refusal;
 use listing::answer::Answer;
 use lock::locks::Lock;
-use memory::interface::Memory;
-use queue::interface::Queue;
+use masks::before::Masks;
+use packed::word::Packed;
+use queue::ring::Ring;
 use script::call::{Call, MemoryKind, QueueKind};
+use words::array::Words;
 
-impl<'b, 'a, W: Memory, P: Memory, R: Queue, K: Queue> Desk<'b, 'a, W, P, R, K> {
-    // A desk over four locks, none of them chosen. They come one by one, since all that a desk borrows is lent
-    // at one lifetime; a function that makes the desk first was tried, and the borrow checker does not cover it.
+// The pair to which a call goes: the one that was chosen, or the one that O names.
+fn pair_for(chosen: Option<Pair>, call: Call<'_>) -> Option<Pair>
+    ensures { result ≡ pair_for chosen (ask call.entry) }
+{
+    match (chosen, call) {
+        (Some(pair), _) => Some(pair),
+        (None, Call::Open(memory, queue, _)) => Some(Pair { memory, queue }),
+        (None, _) => None,
+    }
+}
+
+impl<'a> Desk<'a> {
+    /// A desk with four closed locks, each of number 1 and over one of these tables: Words and Ring, Words and Masks, Packed
+    /// and Ring, Packed and Masks. None of them is chosen.
     pub fn new(
-        words_ring: &'b mut Lock<'a, Cache<W>, R>,
-        words_masks: &'b mut Lock<'a, Cache<W>, K>,
-        packed_ring: &'b mut Lock<'a, Cache<P>, R>,
-        packed_masks: &'b mut Lock<'a, Cache<P>, K>,
-    ) -> Desk<'b, 'a, W, P, R, K>
+        words_ring: &'a mut [u32],
+        words_masks: &'a mut [u32],
+        packed_ring: &'a mut [u32],
+        packed_masks: &'a mut [u32],
+    ) -> Desk<'a>
         ensures { DeskOver words_ring.entry words_masks.entry packed_ring.entry packed_masks.entry result }
     {
         Desk {
             chosen: None,
-            words_ring,
-            words_masks,
-            packed_ring,
-            packed_masks,
+            words_ring: Lock::new(1, Cache::new(Words::new()), Ring::new(), words_ring),
+            words_masks: Lock::new(1, Cache::new(Words::new()), Masks::new(), words_masks),
+            packed_ring: Lock::new(1, Cache::new(Packed::new()), Ring::new(), packed_ring),
+            packed_masks: Lock::new(1, Cache::new(Packed::new()), Masks::new(), packed_masks),
         }
     }
 
     // Makes the call to the lock of the pair. A match and no `dyn`: the four pairs are all there are, and
     // the contract speaks of each lock by its types.
     fn answer_at(&mut self, pair: Pair, call: Call<'_>) -> Result<Answer, Refusal>
-        ensures { PairTells W.Memory P.Memory R.Queue K.Queue pair self.old (ask call.entry) result self.new }
+        ensures { PairTells pair self.old (ask call.entry) result self.new }
     {
         match (pair.memory, pair.queue) {
-            (MemoryKind::Words, QueueKind::Ring) => answer(&mut *self.words_ring, call),
-            (MemoryKind::Words, QueueKind::Masks) => answer(&mut *self.words_masks, call),
-            (MemoryKind::Packed, QueueKind::Ring) => answer(&mut *self.packed_ring, call),
-            (MemoryKind::Packed, QueueKind::Masks) => answer(&mut *self.packed_masks, call),
+            (MemoryKind::Words, QueueKind::Ring) => self.words_ring.answer(call),
+            (MemoryKind::Words, QueueKind::Masks) => self.words_masks.answer(call),
+            (MemoryKind::Packed, QueueKind::Ring) => self.packed_ring.answer(call),
+            (MemoryKind::Packed, QueueKind::Masks) => self.packed_masks.answer(call),
         }
     }
+}
 
-    // Opens the lock of the pair, which is chosen from then on.
-    fn open_at(&mut self, pair: Pair, roles: &[u8]) -> Result<Answer, Refusal>
-        ensures { DeskTellsAt W.Memory P.Memory R.Queue K.Queue (Some pair) self.old (opening pair.memory pair.queue roles.now) result self.new }
-    {
-        let tasks = match (pair.memory, pair.queue) {
-            (MemoryKind::Words, QueueKind::Ring) => open(&mut *self.words_ring, roles)?,
-            (MemoryKind::Words, QueueKind::Masks) => open(&mut *self.words_masks, roles)?,
-            (MemoryKind::Packed, QueueKind::Ring) => open(&mut *self.packed_ring, roles)?,
-            (MemoryKind::Packed, QueueKind::Masks) => open(&mut *self.packed_masks, roles)?,
-        };
+// Until a lock is chosen.
+impl Serve for Desk<'_> {
+    ghost serves = { DeskTells };
+
+    ghost done = { λ d. is_some d.chosen };
+
+    // Makes the call, and tells what a listing says of it: an obeyed one has chosen its lock. Before an O is obeyed any other
+    // call is refused: 10.
+    fn answer(&mut self, call: Call<'_>) -> Result<Answer, Refusal> {
+        let pair = pair_for(self.chosen, call).ok_or(Refusal::Shut)?;
+        let told = self.answer_at(pair, call)?;
         self.chosen = Some(pair);
-        Ok(Answer::Opened(tasks))
+        Ok(told)
     }
 
-    // Makes the call where no lock is chosen: any but an O is refused. Refused: 10.
-    pub(crate) fn answer_closed(&mut self, call: Call<'_>) -> Result<Answer, Refusal>
-        requires { self.old.chosen ≡ None }
-        ensures { DeskTells W.Memory P.Memory R.Queue K.Queue self.old (ask call.entry) result self.new }
-    {
-        match call {
-            Call::Open(memory, queue, roles) => self.open_at(Pair { memory, queue }, roles),
-            _ => Err(Refusal::Shut),
-        }
-    }
-
-    // Makes the call, and tells what a listing says of it. Before an O is obeyed any other call is refused: 10.
-    pub fn answer(&mut self, call: Call<'_>) -> Result<Answer, Refusal>
-        ensures { DeskTells W.Memory P.Memory R.Queue K.Queue self.old (ask call.entry) result self.new }
-    {
-        match self.chosen {
-            Some(pair) => self.answer_at(pair, call),
-            None => self.answer_closed(call),
-        }
+    fn is_done(&self) -> bool {
+        self.chosen.is_some()
     }
 }
