@@ -18,6 +18,11 @@ abbrev pub Put : List ℕ → List ℕ → Result ℕ Refusal → List ℕ → T
 Put d bs (Ok m) o = TookBytes d bs m o
 Put d bs (Err e) o = (length d < length bs) × (e ≡ Room) × (o ≡ d)
 
+-- the same where d is asked to have at least this room, whatever bs is
+abbrev pub PutIn : ℕ → List ℕ → List ℕ → Result ℕ Refusal → List ℕ → Type 0
+PutIn room d bs (Ok m) o = (room ≤ length d) × TookBytes d bs m o
+PutIn room d bs (Err e) o = (length d < room) × (e ≡ Room) × (o ≡ d)
+
 -- o, which has taken m bytes, takes cs as well, and is then p, which has taken k
 pub record Takes (m : ℕ) (o cs : List ℕ) (k : ℕ) (p : List ℕ) : Type 0 where
   pub count : k ≡ m + length cs

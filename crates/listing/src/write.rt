@@ -1,8 +1,8 @@
 // Writing one line of a listing at the start of a lent buffer. The room is asked
 // before the first byte, so a buffer with too little room stays as it was.
-ghost use Rattle.std.specs.Prelude.{◌≡◌, ◌+◌, ◌≤◌, length};
+ghost use Rattle.std.specs.Prelude.{◌≡◌, ◌+◌, ◌≤◌, length, OnOk};
 ghost use Rattle.listing.specs.Listing.{heading, noted, shown};
-ghost use Rattle.listing.specs.Written.{Put, Takes, TookBytes};
+ghost use Rattle.listing.specs.Written.{Put, PutIn, Takes, TookBytes};
 
 use crate::answer::Answer;
 use crate::digits::{put_byte, put_long, put_text, width};
@@ -48,7 +48,7 @@ pub fn put_note(out: &mut [u8], number: u32, text: &[u8]) -> Result<usize, Refus
 
 // The line of a call that gave `answer`, where there is room for any such line.
 #[inline(always)]
-fn put_line(out: &mut [u8], number: u32, answer: Answer) -> usize
+pub(crate) fn put_line(out: &mut [u8], number: u32, answer: Answer) -> usize
     requires { 64 ≤ length out.old }
     ensures written { TookBytes out.old (shown number answer) result out.new }
     ensures short { length (shown number answer) ≤ 64 }
@@ -58,28 +58,15 @@ fn put_line(out: &mut [u8], number: u32, answer: Answer) -> usize
     put_byte(out, at, b'\n')
 }
 
-// The same where there may be too little room: the line is put together apart, to see whether it fits.
-#[cold]
-fn put_tight(out: &mut [u8], number: u32, answer: Answer) -> Result<usize, Refusal>
-    ensures line { Put out.old (shown number answer) result out.new }
-    ensures short { length (shown number answer) ≤ 64 }
-{
-    let mut line = [0; 64];
-    let count = put_line(&mut line, number, answer);
-    if out.len() < count {
-        return Err(Refusal::Room);
-    }
-    Ok(put_text(out, 0, &line[..count]))
-}
-
-/// As `put_note`, for a call that gave `answer`: a line of at most 64 bytes. Refused: 39.
+/// As `put_note`, for a call that gave `answer`: a line of at most 64 bytes. Refused: 39, where `out` has fewer than 64
+/// bytes, the room for any such line.
 #[inline(always)]
 pub fn put_answer(out: &mut [u8], number: u32, answer: Answer) -> Result<usize, Refusal>
-    ensures line { Put out.old (shown number answer) result out.new }
-    ensures short { length (shown number answer) ≤ 64 }
+    ensures line { PutIn 64 out.old (shown number answer) result out.new }
+    ensures short { OnOk result (length (shown number answer) ≤ 64) }
 {
     if out.len() < 64 {
-        return put_tight(out, number, answer);
+        return Err(Refusal::Room);
     }
     Ok(put_line(out, number, answer))
 }
