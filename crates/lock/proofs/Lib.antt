@@ -26,3 +26,4 @@ pub mod ExactRuns
 pub mod Answering
 pub mod CaseRuns
 pub mod Computed
+pub mod ByTask
