@@ -62,11 +62,17 @@ upgrade_plan t = with_pass Reading t (λ k u. spends Reading k u (upgrade k u))
 abbrev pub downgrade_plan : ℕ → Plan
 downgrade_plan t = with_pass Writing t (λ k u. spends Writing k u (downgrade k u))
 
+abbrev pub leave_by : Right → ℕ → Plan
+leave_by w t = with_pass w t (λ k u. spends w k u (leave w k u))
+
 abbrev pub leave_plan : Result (Option Right) Refusal → ℕ → Plan
-leave_plan told t = by_right told (λ w. with_pass w t (λ k u. spends w k u (leave w k u)))
+leave_plan told t = by_right told (λ w. leave_by w t)
+
+abbrev pub read_by : Right → ℕ → ℕ → Plan
+read_by w t row = with_pass w t (λ k u. shows w k u (read w k u row))
 
 abbrev pub read_plan : Result (Option Right) Refusal → ℕ → ℕ → Plan
-read_plan told t row = by_right told (λ w. with_pass w t (λ k u. shows w k u (read w k u row)))
+read_plan told t row = by_right told (λ w. read_by w t row)
 
 abbrev pub put_plan : ℕ → ℕ → ℕ → Plan
 put_plan t row n = with_pass Writing t (λ k u. shows Writing k u (put k u row n))

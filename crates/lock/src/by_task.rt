@@ -1,10 +1,10 @@
-// The calls that need a pass, made by task: the pass is taken and used, and what is left of it is laid back. So no pass is out
-// afterwards that was not out before.
+// The calls that need a pass, made by task: the pass is taken and used, and what is left of it is laid back. So no pass
+// is out afterwards that was not out before.
 ghost use Rattle.std.specs.Prelude.{◌≡◌, OnErr, OnOk, IfErr, None as nothing};
 ghost use Rattle.calls.specs.Questions.{task_refusal};
 ghost use Rattle.calls.specs.Steps.{done, lay_back};
 ghost use Rattle.lock.specs.Answers.{row_told, said};
-ghost use Rattle.lock.specs.ByTask.{Follows, IsOut, Leaves, ReadsRow, Runs, Settles, downgrade_plan, leave_plan, put_plan, read_plan, upgrade_plan};
+ghost use Rattle.lock.specs.ByTask.{Follows, IsOut, Leaves, ReadsRow, Runs, Settles, downgrade_plan, leave_by, leave_plan, put_plan, read_by, read_plan, upgrade_plan};
 ghost use Rattle.lock.specs.View.{Does, view};
 
 use crate::locks::Lock;
@@ -41,8 +41,8 @@ impl<'a, M: Memory, Q: Queue> Lock<'a, M, Q> {
         }
     }
 
-    /// Upgrades a task that has the reading right: does line 27.1. Whether the upgrade is granted, the task's right tells once
-    /// it is inside again. Refused, and everything is as it was: 10, 20, 24, 25, 26, 29.
+    /// Upgrades a task that has the reading right: does line 27.1. Whether the upgrade is granted, the task's right
+    /// tells once it is inside again. Refused, and everything is as it was: 10, 20, 24, 25, 26, 29.
     pub fn upgrade_task(&mut self, task: u32) -> Result<(), Refusal>
         ensures follows { Follows M.Memory Q.Queue (upgrade_plan task) self.old (said result) self.new }
         ensures runs { Runs M.Memory Q.Queue self.old self.new }
@@ -54,8 +54,8 @@ impl<'a, M: Memory, Q: Queue> Lock<'a, M, Q> {
         self.settle(made)
     }
 
-    /// Downgrades a task that has the writing right: does line 25.1 or 28.1. Refused, and everything is as it was: 10, 20, 24,
-    /// 25, 26.
+    /// Downgrades a task that has the writing right: does line 25.1 or 28.1. Refused, and everything is as it was: 10,
+    /// 20, 24, 25, 26.
     pub fn downgrade_task(&mut self, task: u32) -> Result<(), Refusal>
         ensures follows { Follows M.Memory Q.Queue (downgrade_plan task) self.old (said result) self.new }
         ensures runs { Runs M.Memory Q.Queue self.old self.new }
@@ -69,7 +69,7 @@ impl<'a, M: Memory, Q: Queue> Lock<'a, M, Q> {
 
     // A task leaves, by a pass for this right.
     fn leave_with<R: Bears>(&mut self, task: u32) -> Result<(), Refusal>
-        ensures { Follows M.Memory Q.Queue (leave_plan (Ok (Some R.right)) task) self.old (said result) self.new }
+        ensures { Follows M.Memory Q.Queue (leave_by R.right task) self.old (said result) self.new }
     {
         let pass = self.take::<R>(task)?;
         let made = self.leave(pass);
@@ -92,8 +92,8 @@ impl<'a, M: Memory, Q: Queue> Lock<'a, M, Q> {
         }
     }
 
-    /// A task leaves, by whichever right it has: does the first line of its leave. Refused, and everything is as it was: 10,
-    /// 20, 24, 25.
+    /// A task leaves, by whichever right it has: does the first line of its leave. Refused, and everything is as it
+    /// was: 10, 20, 24, 25.
     pub fn leave_task(&mut self, task: u32) -> Result<(), Refusal>
         ensures follows { Leaves M.Memory Q.Queue task self.old (said result) self.new }
         ensures runs { Runs M.Memory Q.Queue self.old self.new }
@@ -106,7 +106,7 @@ impl<'a, M: Memory, Q: Queue> Lock<'a, M, Q> {
 
     // A row, by a pass for this right.
     fn read_with<R: Bears>(&mut self, task: u32, row: usize) -> Result<Option<u32>, Refusal>
-        ensures { Follows M.Memory Q.Queue (read_plan (Ok (Some R.right)) task row) self.old (row_told result) self.new }
+        ensures { Follows M.Memory Q.Queue (read_by R.right task row) self.old (row_told result) self.new }
     {
         let pass = self.take::<R>(task)?;
         let found = self.read(&pass, row);
@@ -131,8 +131,8 @@ impl<'a, M: Memory, Q: Queue> Lock<'a, M, Q> {
         }
     }
 
-    /// The thickness in a row, in micrometres, or nothing where nobody has measured the rib, by whichever right the task has.
-    /// Obeyed or refused, everything is as it was. Refused: 10, 20, 24, 25, 30, 32.
+    /// The thickness in a row, in micrometres, or nothing where nobody has measured the rib, by whichever right the
+    /// task has. Obeyed or refused, everything is as it was. Refused: 10, 20, 24, 25, 30, 32.
     pub fn read_row(&mut self, task: u32, row: usize) -> Result<Option<u32>, Refusal>
         ensures follows { ReadsRow M.Memory Q.Queue task row self.old (row_told result) self.new }
         ensures runs { Runs M.Memory Q.Queue self.old self.new }
@@ -143,8 +143,8 @@ impl<'a, M: Memory, Q: Queue> Lock<'a, M, Q> {
         self.read_by_right(task, row, told)
     }
 
-    /// Puts a thickness into a row, in micrometres, by the writing right of the task. Refused, and everything is as it was: 10,
-    /// 20, 24, 25, 26, 30, 31.
+    /// Puts a thickness into a row, in micrometres, by the writing right of the task. Refused, and everything is as it
+    /// was: 10, 20, 24, 25, 26, 30, 31.
     pub fn put_row(&mut self, task: u32, row: usize, thickness: u32) -> Result<(), Refusal>
         ensures follows { Follows M.Memory Q.Queue (put_plan task row thickness) self.old (said result) self.new }
         ensures runs { Runs M.Memory Q.Queue self.old self.new }
