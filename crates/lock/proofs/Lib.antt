@@ -27,3 +27,4 @@ pub mod Answering
 pub mod CaseRuns
 pub mod Computed
 pub mod Exactly
+pub mod ByTask

@@ -7,8 +7,12 @@ use Rattle.lines.specs.declared.place.Right.{Right}
 use Rattle.lines.specs.declared.place.Right.TheVariants.{Reading, Writing}
 use Rattle.calls.specs.declared.refusal.Refusal.{Refusal}
 use Rattle.calls.specs.declared.refusal.Refusal.TheVariants.{Outside}
+use Rattle.calls.specs.Questions.{pass_refusal}
 use Rattle.calls.specs.Steps.{Answer, Call, done, downgrade, gives, hands, lay_back, leave, no, put, read, take, upgrade}
+use Rattle.calls.specs.Told.{right_told}
 use Rattle.lock.specs.declared.locks.Lock.{Lock}
+use Rattle.lock.specs.declared.pass.Kept.{Kept}
+use Rattle.lock.specs.declared.pass.Pass.{Pass}
 use Rattle.lock.specs.Runs.{Made, Run}
 use Rattle.lock.specs.View.{Does, view}
 
@@ -38,13 +42,13 @@ shows w k t c = makes c (λ a. makes (lay_back w k t) (λ _. ends a))
 
 -- a pass for the right w is taken for task t and used; where it is refused, that is all
 abbrev pub used : (ℕ → ℕ → Plan) → Answer → Plan
-used f (hands w k t) = f k t
-used f (no e) = ends (no e)
-used f done = ends done
-used f (gives row) = ends (gives row)
+used plan (hands w k t) = plan k t
+used plan (no e) = ends (no e)
+used plan done = ends done
+used plan (gives row) = ends (gives row)
 
 abbrev pub with_pass : Right → ℕ → (ℕ → ℕ → Plan) → Plan
-with_pass w t f = makes (take w t) (used f)
+with_pass w t plan = makes (take w t) (used plan)
 
 -- by whichever right the task has, as the question on it told; a task that is not inside has none
 abbrev pub by_right : Result (Option Right) Refusal → (Right → Plan) → Plan
@@ -58,11 +62,17 @@ upgrade_plan t = with_pass Reading t (λ k u. spends Reading k u (upgrade k u))
 abbrev pub downgrade_plan : ℕ → Plan
 downgrade_plan t = with_pass Writing t (λ k u. spends Writing k u (downgrade k u))
 
+abbrev pub leave_by : Right → ℕ → Plan
+leave_by w t = with_pass w t (λ k u. spends w k u (leave w k u))
+
 abbrev pub leave_plan : Result (Option Right) Refusal → ℕ → Plan
-leave_plan told t = by_right told (λ w. with_pass w t (λ k u. spends w k u (leave w k u)))
+leave_plan told t = by_right told (λ w. leave_by w t)
+
+abbrev pub read_by : Right → ℕ → ℕ → Plan
+read_by w t row = with_pass w t (λ k u. shows w k u (read w k u row))
 
 abbrev pub read_plan : Result (Option Right) Refusal → ℕ → ℕ → Plan
-read_plan told t row = by_right told (λ w. with_pass w t (λ k u. shows w k u (read w k u row)))
+read_plan told t row = by_right told (λ w. read_by w t row)
 
 abbrev pub put_plan : ℕ → ℕ → ℕ → Plan
 put_plan t row n = with_pass Writing t (λ k u. shows Writing k u (put k u row n))
@@ -76,3 +86,19 @@ module _ {M Q : Type 0} (mem : MemoryGhosts M) (que : QueueGhosts Q) where
   -- some calls lead from l to l', as a run of the nine calls: what the openings promise of runs holds of it
   abbrev pub Runs : Lock M Q → Lock M Q → Type 0
   Runs l l' = (es : List Made) × Run mem.does mem.limit es (view mem que l) l.memory (view mem que l') l'.memory
+
+  -- the two plans that go by the task's right, from the lock as it is
+  abbrev pub Leaves : ℕ → Lock M Q → Answer → Lock M Q → Type 0
+  Leaves t l a l' = Follows (leave_plan (right_told (view mem que l) t) t) l a l'
+
+  abbrev pub ReadsRow : ℕ → ℕ → Lock M Q → Answer → Lock M Q → Type 0
+  ReadsRow t row l a l' = Follows (read_plan (right_told (view mem que l) t) t row) l a l'
+
+  -- such a pass is out here
+  abbrev pub IsOut : Right → ℕ → ℕ → Lock M Q → Type 0
+  IsOut w k t l = pass_refusal (view mem que l) w k t ≡ None
+
+  -- what came of a call that spends a pass is told; where it was refused, the pass that came back is laid back first
+  abbrev pub Settles : {R : Type 0} → Right → Result (Unit {0}) (Kept (Pass R)) → Lock M Q → Answer → Lock M Q → Type 0
+  Settles w (Ok _) l a l' = (a ≡ done) × (l' ≡ l)
+  Settles w (Err k) l a l' = (a ≡ no k.why) × Does mem que (lay_back w k.pass.lock k.pass.task) l done l'

@@ -2,6 +2,7 @@
 #![tactic(auto)]
 
 mod access;
+pub mod by_task;
 pub mod caching;
 pub mod calling;
 pub mod cases;

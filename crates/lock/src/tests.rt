@@ -1,5 +1,5 @@
-// The lock under the cache: a lone reader and a lone writer, upgrades, downgrades and leaves, passes and rows, and each
-// refusal in the order of its questions and at its edge.
+// The lock under the cache: a lone reader and a lone writer, upgrades, downgrades and leaves, passes and rows, and calls
+// by task, and each refusal in the order of its questions and at its edge.
 use crate::locks::Lock;
 use crate::pass::{Kept, Pass, ReadPass, Reading, WritePass, Writing};
 use cache::layer::Cache;
@@ -463,4 +463,93 @@ fn edges(lock: &mut Lock<'_, Cache<Words>, Ring>) -> [u32; 6] {
     other.end();
     nobody.end();
     told
+}
+
+// A reader reads, upgrades, puts, downgrades and leaves, by its number alone.
+#[test]
+fn calls_by_task(rt: HostRuntime) -> Result<(), Fail> {
+    let mut rows = [0; 16];
+    let mut lock = closed(&mut rows);
+    lock.open(b"RW")?;
+    enter(&mut lock, 1)?;
+    assert_eq!(rt; lock.read_row(1, 5), Ok(None));
+    lock.upgrade_task(1)?;
+    assert_eq!(rt; lock.place(1)?, Place::Next(Line::L27p2));
+    while_on_line(&mut lock, 1)?;
+    assert_eq!(rt; lock.right(1)?, Some(Right::Writing));
+    lock.put_row(1, 5, 1200)?;
+    assert_eq!(rt; lock.read_row(1, 5), Ok(Some(1200)));
+    assert_eq!(rt; lock.read_row(1, 4), Ok(None));
+    lock.downgrade_task(1)?;
+    assert_eq!(rt; lock.place(1)?, Place::Next(Line::Down28p2));
+    while_on_line(&mut lock, 1)?;
+    assert_eq!(rt; lock.right(1)?, Some(Right::Reading));
+    assert_eq!(rt; lock.read_row(1, 5), Ok(Some(1200)));
+    lock.leave_task(1)?;
+    assert_eq!(rt; lock.place(1)?, Place::Next(Line::L9));
+    while_on_line(&mut lock, 1)?;
+    enter(&mut lock, 2)?;
+    lock.leave_task(2)?;
+    assert_eq!(rt; lock.place(2)?, Place::Next(Line::L8));
+    Ok(())
+}
+
+// The number of a refusal, and 0 where the call was obeyed.
+fn number_of(told: Result<(), Refusal>) -> u32 {
+    match told {
+        Ok(()) => 0,
+        Err(why) => why.number(),
+    }
+}
+
+// What the calls by task answer for a task without the writing right: upgrade, downgrade, put and leave. There is no row 16,
+// and 0 is no thickness.
+fn by_task(lock: &mut Lock<'_, Cache<Words>, Ring>, task: u32) -> [u32; 4] {
+    [
+        number_of(lock.upgrade_task(task)),
+        number_of(lock.downgrade_task(task)),
+        number_of(lock.put_row(task, 16, 0)),
+        number_of(lock.leave_task(task)),
+    ]
+}
+
+#[test]
+fn refusals_by_task(rt: HostRuntime) -> Result<(), Fail> {
+    let mut rows = [0; 16];
+    let mut lock = closed(&mut rows);
+    assert_eq!(rt; by_task(&mut lock, 1), [10; 4]);
+    assert_eq!(rt; lock.read_row(1, 0), Err(Refusal::Shut));
+    lock.open(b"RW")?;
+    assert_eq!(rt; by_task(&mut lock, 3), [20; 4]);
+    assert_eq!(rt; lock.read_row(0, 0), Err(Refusal::NoTask));
+    assert_eq!(rt; by_task(&mut lock, 1), [24; 4]);
+    assert_eq!(rt; lock.read_row(1, 0), Err(Refusal::Outside));
+    enter(&mut lock, 2)?;
+    assert_eq!(rt; number_of(lock.upgrade_task(2)), 26);
+    assert_eq!(rt; number_of(lock.put_row(2, 16, 0)), 30);
+    assert_eq!(rt; number_of(lock.put_row(2, 15, 0)), 31);
+    // no pass is out after these: one can be taken, and with it out each call by task is refused
+    assert_eq!(rt; refusal_of(lock.take::<Writing>(2)), 0);
+    assert_eq!(rt; by_task(&mut lock, 2), [25; 4]);
+    assert_eq!(rt; lock.read_row(2, 0), Err(Refusal::PassOut));
+    Ok(())
+}
+
+// What a call by task refuses after its pass was taken: the pass is laid back, and so the task can leave.
+#[test]
+fn refused_with_a_pass(rt: HostRuntime) -> Result<(), Fail> {
+    let mut rows = [0, 1000001];
+    let mut lock = closed(&mut rows);
+    lock.open(b"RR")?;
+    enter(&mut lock, 1)?;
+    enter(&mut lock, 2)?;
+    assert_eq!(rt; lock.read_row(1, 1), Err(Refusal::Stored));
+    assert_eq!(rt; lock.read_row(1, 2), Err(Refusal::NoRow));
+    for _ in 0..1000 {
+        lock.upgrade_task(1)?;
+    }
+    assert_eq!(rt; number_of(lock.upgrade_task(1)), 29);
+    assert_eq!(rt; lock.account(1)?.u, 1000);
+    assert_eq!(rt; number_of(lock.leave_task(1)), 0);
+    Ok(())
 }
