@@ -1,25 +1,22 @@
 -- The laws of whole schedules.
-use Rattle.std.proofs.Common.{◌≡◌, ℕ, suc, ◌+◌, ◌≤◌, cond, eqb, List, [], ◌∷◌, ◌++◌, length, Ok, Result, sym, refl, ap, ◌∙◌, inl, inr, arith}
+use Rattle.std.proofs.Common.{◌≡◌, ℕ, suc, ◌+◌, ◌≤◌, cond, eqb, List, [], ◌∷◌, ◌++◌, length, Ok, Result, sym, refl, ap, ◌∙◌, inl, inr, add-zero, zero-add, arith}
 use Rattle.std.proofs.lemmas.Bool.{cases_Bool, le-leb, ne_eqb}
 use Rattle.std.proofs.lemmas.List.{append_assoc}
 use Rattle.script.specs.Calls.{arguments, blank, call, called, note, over, parse}
 use Rattle.script.specs.Cuts.{lines, onto}
 use Rattle.script.specs.declared.refusal.Refusal.TheVariants.{Length}
 use Rattle.schedule.specs.declared.refusal.Refusal.{Refusal}
-use Rattle.schedule.specs.Laws.{IsQuiet, Numbered, Prefix, QuietLines, Undisturbed, numbered, replies}
-use Rattle.schedule.specs.Listing.{reply_bytes, whole_refused}
-use Rattle.schedule.specs.Meaning.{Board, first_board, listed, listing, replied}
-use Rattle.schedule.specs.Replies.{Heard, nothing, noting}
+use Rattle.schedule.specs.Desks.{Board}
+use Rattle.schedule.specs.Laws.{IsQuiet, Numbered, Prefix, QuietLines, Undisturbed}
+use Rattle.schedule.specs.Listing.{numbered, reply_bytes, whole_refused}
+use Rattle.schedule.specs.Meaning.{first_board, listed, listing}
+use Rattle.schedule.specs.Replies.{Heard, board_after, nothing, noting, replied, replies}
 
 short_listing : (input : List ℕ) → length input ≤ 65536 → listing input ≡ listed 0 first_board (lines input)
 short_listing input few = ap (λ b. cond b (listed 0 first_board (lines input)) (whole_refused Length)) (le-leb (length input) 65536 few)
 
-listed_numbered : (n : ℕ) (b : Board) (ls : List (List ℕ)) → listed n b ls ≡ numbered n (replies b ls)
-listed_numbered n b [] = refl
-listed_numbered n b (l ∷ ls) = ap (λ z. reply_bytes (n + 1) (replied (parse l) b).0 ++ z) (listed_numbered (n + 1) (replied (parse l) b).1 ls)
-
 pub is_numbered : Numbered
-is_numbered input few = short_listing input few ∙ listed_numbered 0 first_board (lines input)
+is_numbered input few = short_listing input few
 
 -- a cut at a line end cuts the lines
 
@@ -45,12 +42,21 @@ cut_lines (x ∷ cut) more =
           ap (λ b. cond b ([] ∷ c) (onto x c)) on ∙ ap (onto x) (later ∙ ap (λ z. z ++ lines more) is) ∙ ap (λ z. z ++ lines more) (sym (ap (onto x) is)) ∙ ap (λ z. z ++ lines more) (sym (ap (λ b. cond b ([] ∷ a) (onto x a)) on))
     ]
 
-listed_parts : (n : ℕ) (b : Board) (ls ms : List (List ℕ)) → (rest : List ℕ) × (listed n b (ls ++ ms) ≡ listed n b ls ++ rest)
-listed_parts n b [] ms = (listed n b ms, refl)
+-- lines done in two parts
+
+pub listed_parts : (n : ℕ) (b : Board) (ls ms : List (List ℕ)) → listed n b (ls ++ ms) ≡ listed n b ls ++ listed (n + length ls) (board_after b ls) ms
+listed_parts n b [] ms = ap (λ k. listed k b ms) (sym (add-zero n))
 listed_parts n b (l ∷ ls) ms =
-    let (rest, is) = listed_parts (n + 1) (replied (parse l) b).1 ls ms in
     let own = reply_bytes (n + 1) (replied (parse l) b).0 in
-    (rest, ap (λ z. own ++ z) is ∙ sym (append_assoc own (listed (n + 1) (replied (parse l) b).1 ls) rest))
+    let c = (replied (parse l) b).1 in
+    ap (λ z. own ++ z) (listed_parts (n + 1) c ls ms) ∙ sym (append_assoc own (listed (n + 1) c ls) _) ∙ ap (λ k. own ++ listed (n + 1) c ls ++ listed k (board_after c ls) ms) (one_on n (length ls))
+  where
+    one_on : (n k : ℕ) → n + 1 + k ≡ n + suc k
+    one_on n k = omega arith
+
+pub after_parts : (b : Board) (ls ms : List (List ℕ)) → board_after b (ls ++ ms) ≡ board_after (board_after b ls) ms
+after_parts b [] ms = refl
+after_parts b (l ∷ ls) ms = after_parts (replied (parse l) b).1 ls ms
 
 length_more : (xs ys : List ℕ) → length (xs ++ 10 ∷ []) ≤ length (xs ++ 10 ∷ ys)
 length_more [] ys = omega arith
@@ -58,8 +64,12 @@ length_more (x ∷ xs) ys = omega (arith, length_more xs ys)
 
 pub is_prefix : Prefix
 is_prefix cut more few =
-    let (rest, is) = listed_parts 0 first_board (lines (cut ++ 10 ∷ [])) (lines more) in
-    (rest, short_listing (cut ++ 10 ∷ more) few ∙ ap (listed 0 first_board) (cut_lines cut more) ∙ is ∙ ap (λ z. z ++ rest) (sym (short_listing (cut ++ 10 ∷ []) (omega (arith, length_more cut more)))))
+    let first = lines (cut ++ 10 ∷ []) in
+    let rest = listed (length first) (board_after first_board first) (lines more) in (
+      rest,
+      short_listing (cut ++ 10 ∷ more) few ∙ ap (listed 0 first_board) (cut_lines cut more) ∙ listed_parts 0 first_board first (lines more) ∙ ap (λ k. listed 0 first_board first ++ listed k (board_after first_board first) (lines more)) (zero-add (length first))
+      ∙ ap (λ z. z ++ rest) (sym (short_listing (cut ++ 10 ∷ []) (omega (arith, length_more cut more)))),
+    )
 
 note_read : (text : List ℕ) → parse (35 ∷ text) ≡ Ok (note (35 ∷ text))
 note_read text =

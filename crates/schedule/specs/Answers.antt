@@ -80,7 +80,7 @@ tell limit (put t row n) x = planned limit t (put_plan t row n) x
 module _ {B Q : Type 0} (mem : MemoryGhosts B) (que : QueueGhosts Q) (limit : ℕ) where
   -- a lock over the cache layer tells o of the call a and is then l', over the table that was lent
   abbrev pub Tells : Lock (Cache B) Q → Ask → Result Answer Refusal → Lock (Cache B) Q → Type 0
-  Tells l a o l' = ((o, seen mem que l') ≡ tell limit a (seen mem que l)) × (l'.table.ghost_name ≡ l.table.ghost_name)
+  Tells l a o l' = ◌≡◌ {A = Result Answer Refusal × Counted} (o, seen mem que l') (tell limit a (seen mem que l)) × (l'.table.ghost_name ≡ l.table.ghost_name)
 
 -- What is told of an obeyed call once it is made.
 
@@ -107,4 +107,4 @@ module _ {B Q : Type 0} (mem : MemoryGhosts B) (que : QueueGhosts Q) (limit : �
 
   -- the lock is opened to so many tasks
   abbrev pub Opens : Lock (Cache B) Q → List ℕ → Result ℕ Refusal → Lock (Cache B) Q → Type 0
-  Opens l roles r l' = ((opened_told r, seen mem que l') ≡ opened limit roles (seen mem que l)) × (l'.table.ghost_name ≡ l.table.ghost_name)
+  Opens l roles r l' = ◌≡◌ {A = Result Answer Refusal × Counted} (opened_told r, seen mem que l') (opened limit roles (seen mem que l)) × (l'.table.ghost_name ≡ l.table.ghost_name)

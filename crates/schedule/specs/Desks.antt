@@ -115,12 +115,12 @@ pub record SameTables (d e : Desk) : Type 0 where
 
 -- the desk d tells o of the call a and is then e
 abbrev pub DeskTells : Desk → Ask → Result Answer Refusal → Desk → Type 0
-DeskTells d a o e = ((o, board e) ≡ board_tells a (board d)) × SameTables d e
+DeskTells d a o e = ◌≡◌ {A = Result Answer Refusal × Board} (o, board e) (board_tells a (board d)) × SameTables d e
 
 -- the call a is made to the lock of the pair, which tells o, and the desk is then e; which pair is chosen stays
 abbrev pub PairTells : Pair → Desk → Ask → Result Answer Refusal → Desk → Type 0
 PairTells p d a o e =
-    (let r = tell (limit_of p.memory) a (lock_of p.memory p.queue (board d)) in (o, board e) ≡ (r.0, with_lock p.memory p.queue r.1 d.chosen (board d)))
+    (let r = tell (limit_of p.memory) a (lock_of p.memory p.queue (board d)) in ◌≡◌ {A = Result Answer Refusal × Board} (o, board e) (r.0, with_lock p.memory p.queue r.1 d.chosen (board d)))
     × SameTables d e
 
 -- a desk over four lent tables
