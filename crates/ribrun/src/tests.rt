@@ -2,6 +2,7 @@
 // too little room for it.
 use crate::list;
 use crate::reading::read_input;
+use listing::output::Output;
 use std::io;
 use std::io::{ErrorKind, Read};
 use std::test::Fail;
@@ -69,7 +70,7 @@ fn an_input_is_read_no_further_than_it_says_something(rt: HostRuntime) -> Result
 fn a_write_that_fails_leaves_a_front_of_the_listing(rt: HostRuntime) {
     for room in 0..LISTING.len() {
         let mut held = [0; 32];
-        let mut out = &mut held[..room];
+        let mut out = Output::new(&mut held[..room]);
         assert!(rt; list(TEXT, &mut out).is_err());
         assert_eq!(rt; &held[..room], &LISTING[..room]);
     }
@@ -78,8 +79,7 @@ fn a_write_that_fails_leaves_a_front_of_the_listing(rt: HostRuntime) {
 #[test]
 fn a_listing_for_which_there_is_room_is_written(rt: HostRuntime) -> Result<(), Fail> {
     let mut held = [0; 18];
-    let mut out = &mut held[..];
-    list(TEXT, &mut out)?;
+    list(TEXT, &mut Output::new(&mut held[..]))?;
     assert_eq!(rt; &held[..], LISTING);
     Ok(())
 }

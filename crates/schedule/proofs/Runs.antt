@@ -49,7 +49,7 @@ module _ {S : Type 0} (does : S → Ask → Result Answer LockRefusal → S → 
 
   -- what calls do at the board, lines do
   module _ (board : S → Board) (sees : (s : S) (a : Ask) (o : Result Answer LockRefusal) (t : S) → does s a o t → ◌≡◌ {A = Result Answer LockRefusal × Board} (o, board t) (board_tells a (board s))) where
-    line_seen : (said : Result Said LineRefusal) (s t : S) (r : Result Heard Refusal) → Obeyed does s said r t → ◌≡◌ {A = Result Heard Refusal × Board} (r, board t) (replied said (board s))
+    pub line_seen : (said : Result Said LineRefusal) (s t : S) (r : Result Heard Refusal) → Obeyed does s said r t → ◌≡◌ {A = Result Heard Refusal × Board} (r, board t) (replied said (board s))
     line_seen (Err e) s t r (is, same) = λ i. (is i, board (same i))
     line_seen (Ok blank) s t r (is, same) = λ i. (is i, board (same i))
     line_seen (Ok (note text)) s t r (is, same) = λ i. (is i, board (same i))
@@ -80,7 +80,7 @@ module _ {S : Type 0} (does : S → Ask → Result Answer LockRefusal → S → 
 
   -- and what all calls keep
   module _ {N : Type 0} (name : S → N) (keeps : (s : S) (a : Ask) (o : Result Answer LockRefusal) (t : S) → does s a o t → name t ≡ name s) where
-    line_keeps : (said : Result Said LineRefusal) (s t : S) (r : Result Heard Refusal) → Obeyed does s said r t → name t ≡ name s
+    pub line_keeps : (said : Result Said LineRefusal) (s t : S) (r : Result Heard Refusal) → Obeyed does s said r t → name t ≡ name s
     line_keeps (Err e) s t r (is, same) = ap name same
     line_keeps (Ok blank) s t r (is, same) = ap name same
     line_keeps (Ok (note text)) s t r (is, same) = ap name same

@@ -1,7 +1,47 @@
+use Rattle.std.proofs.Common.{◌≡◌, ℕ, ◌+◌, List, None, Some, Option, Result, refl, sym, ap, ◌∙◌, subst, rules, arith}
+use Rattle.listing.specs.Written.{TookBytes}
+use Rattle.script.specs.Calls.{parse}
+use Rattle.script.specs.Reading.{to_come}
+use Rattle.schedule.specs.declared.desk.Desk.{Desk}
+use Rattle.schedule.specs.declared.refusal.Refusal.{Refusal}
+use Rattle.schedule.specs.Desks.{Board, DeskTells, board}
+use Rattle.schedule.specs.Listing.{heard_bytes, reply_bytes}
+use Rattle.schedule.specs.Progress.{GivesLine, Progress, progress}
+use Rattle.schedule.specs.Replies.{Heard, heard}
+use Rattle.schedule.proofs.Printed.{next_is}
+use Rattle.schedule.proofs.Runs.{line_keeps, line_seen}
 use Rattle.schedule.proofs.schedule.Schedule.line_bytes.Goals as goal
 
 pub returns-clause-gives : goal.returns-clause-gives
-returns-clause-gives c = ?
+returns-clause-gives c =
+    let s = c.args.self.now in
+    let text = c.in-Some-next_line.text.now in
+    let line = c.in-Some-next_line.ensures in
+    let q = c.next_line.new.self in
+    let (r, obeyed, tells) = c.reply_of-reply.ensures.replies in
+    let seen = line_seen DeskTells board (λ d a o e t. t.0) (parse text) s.desk.now c.reply_of-reply.new.server r obeyed in
+    let told : s.untold ≡ None = search rules in
+    let still : c.take.new.self ≡ None = search rules in
+    let is = next_is (progress s) text (to_come q) told line.first in
+    let number : c.number-number.result ≡ s.reader.number + 1 = c.number-number.ensures.value ∙ line.counted in
+    let bytes = ap (λ k. heard_bytes k (heard c.reply_of-reply.result)) number ∙ ap (heard_bytes (s.reader.number + 1)) tells ∙ ap (λ (z : Result Heard Refusal × Board). reply_bytes (s.reader.number + 1) z.0) seen in
+    let took = subst (λ bs. TookBytes c.args.out.now bs c.put_reply-2.result c.put_reply-2.new.out) bytes c.put_reply-2.ensures in (
+      omega arith,
+      subst (λ (z : Option (List ℕ) × Progress). GivesLine z.0 c.args.out.now (Some c.put_reply-2.result) c.put_reply-2.new.out) (sym is) took,
+      (λ i. record { untold = (still ∙ sym told) i; number = line.counted i; left = to_come q; board = ap (λ (z : Result Heard Refusal × Board). z.1) seen i }) ∙ ap (λ (z : Option (List ℕ) × Progress). z.1) (sym is),
+    )
 
 pub returns-clause-same : goal.returns-clause-same
-returns-clause-same c = ?
+returns-clause-same c =
+    let d = c.args.self.now.desk.now in
+    let e = c.reply_of-reply.new.server in
+    let said = parse c.in-Some-next_line.text.now in
+    let (r, obeyed, tells) = c.reply_of-reply.ensures.replies in (
+      refl,
+      record {
+        words_ring = line_keeps DeskTells (λ (d : Desk). d.words_ring.table.ghost_name) (λ d a o e t. t.1.words_ring) said d e r obeyed;
+        words_masks = line_keeps DeskTells (λ (d : Desk). d.words_masks.table.ghost_name) (λ d a o e t. t.1.words_masks) said d e r obeyed;
+        packed_ring = line_keeps DeskTells (λ (d : Desk). d.packed_ring.table.ghost_name) (λ d a o e t. t.1.packed_ring) said d e r obeyed;
+        packed_masks = line_keeps DeskTells (λ (d : Desk). d.packed_masks.table.ghost_name) (λ d a o e t. t.1.packed_masks) said d e r obeyed;
+      },
+    )
