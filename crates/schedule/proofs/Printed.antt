@@ -1,16 +1,14 @@
 -- All that is left of a listing, printed part by part.
-use Rattle.std.proofs.Common.{◌≡◌, ℕ, ◌+◌, Bool, true, false, cond, leb, List, [], ◌∷◌, ◌++◌, length, Some, None, Ok, Err, Option, Result, sym, refl, ap, ◌∙◌, subst, add-zero, arith}
+use Rattle.std.proofs.Common.{◌≡◌, ℕ, ◌+◌, List, [], ◌∷◌, ◌++◌, length, Some, None, Ok, Err, Option, Result, sym, refl, ap, ◌∙◌, subst, add-zero, arith}
 use Rattle.std.proofs.lemmas.List.{append-nil, append_assoc}
 use Rattle.std.specs.Io.KnownBytes.{Appends}
-use Rattle.script.specs.declared.refusal.Refusal.TheVariants.{Length}
 use Rattle.script.specs.Calls.{parse}
-use Rattle.script.specs.Cuts.{lines}
 use Rattle.streams.specs.Streams.{Cut, Passed}
 use Rattle.streams.proofs.Passed.{appends_more, cut_before, passed_before, passed_from, passed_more}
-use Rattle.schedule.specs.Listing.{reply_bytes, whole_refused}
+use Rattle.schedule.specs.Listing.{reply_bytes}
 use Rattle.schedule.specs.Lists.{ListsOn}
-use Rattle.schedule.specs.Meaning.{first_board, listed, listing}
-use Rattle.schedule.specs.Progress.{PartDone, Progress, after, begun, next, next_line, to_print, told, untold_bytes}
+use Rattle.schedule.specs.Meaning.{listed}
+use Rattle.schedule.specs.Progress.{PartDone, Progress, after, next, next_line, to_print, told, untold_bytes}
 use Rattle.schedule.specs.Replies.{board_after, replied}
 use Rattle.schedule.proofs.WholeListing.{listed_parts}
 
@@ -59,18 +57,3 @@ module _ (p : Progress) (h : List ℕ) where
 
   pub none_done : (q : Progress) → q ≡ told p → PartDone p q
   none_done q is = ([], p.left, refl, is ∙ (λ i. record { untold = None; number = sym (add-zero p.number) i; left = p.left; board = p.board }))
-
--- a schedule just begun prints its listing
-
-abbrev begun_if : Bool → List ℕ → Progress
-begun_if fits input = cond fits (record { untold = None; number = 0; left = lines input; board = first_board }) (record { untold = Some Length; number = 0; left = []; board = first_board })
-
-abbrev listing_if : Bool → List ℕ → List ℕ
-listing_if fits input = cond fits (listed 0 first_board (lines input)) (whole_refused Length)
-
-prints_if : (fits : Bool) (input : List ℕ) → to_print (begun_if fits input) ≡ listing_if fits input
-prints_if true input = refl
-prints_if false input = append-nil (whole_refused Length)
-
-pub begun_prints : (input : List ℕ) → to_print (begun input first_board) ≡ listing input
-begun_prints input = prints_if (leb (length input) 65536) input
