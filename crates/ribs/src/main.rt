@@ -2,13 +2,10 @@
 // Each step is told: who did what, where that task is now (L16p1 is line 16.1), and what its attempt has cost.
 #![tactic(auto)]
 
-mod passes;
-
 use cache::layer::Cache;
 use calls::refusal::Refusal;
 use lines::place::{Place, Right};
 use lock::locks::Lock;
-use lock::pass::{Bears, Reading, Writing};
 use packed::word::Packed;
 use queue::ring::Ring;
 use std::fmt::Display;
@@ -45,6 +42,15 @@ fn tell(rt: &impl Print, wall: &Wall<'_>, task: u32, did: &impl Display) -> Done
     Ok(())
 }
 
+// Tells a call that may be refused, and goes on: a refused call leaves everything as it was.
+fn tell_answer(rt: &impl Print, task: u32, did: &str, answer: Result<(), Refusal>) -> Done {
+    match answer {
+        Ok(()) => println!(rt; "task {task} {did}: obeyed")?,
+        Err(why) => println!(rt; "task {task} {did}: refused {}", why.number())?,
+    }
+    Ok(())
+}
+
 // Tells a step that a task did, and does its lines until it is inside or at rest.
 fn advance(rt: &impl Print, wall: &mut Wall<'_>, task: u32, did: &str) -> Done {
     tell(rt, wall, task, &did)?;
@@ -62,14 +68,19 @@ fn enter(rt: &impl Print, wall: &mut Wall<'_>, task: u32) -> Done {
     advance(rt, wall, task, "begins")
 }
 
-fn leave<R: Bears>(rt: &impl Print, wall: &mut Wall<'_>, task: u32) -> Done {
-    passes::leave::<R, _, _>(wall, task)?;
+fn upgrade(rt: &impl Print, wall: &mut Wall<'_>, task: u32) -> Done {
+    wall.upgrade_task(task)?;
+    advance(rt, wall, task, "upgrades")
+}
+
+fn leave(rt: &impl Print, wall: &mut Wall<'_>, task: u32) -> Done {
+    wall.leave_task(task)?;
     advance(rt, wall, task, "leaves")
 }
 
-// What a task found in a rib: its thickness, or that nobody has measured it.
-fn tell_rib(rt: &impl Print, wall: &Wall<'_>, task: u32, rib: usize, found: Option<u32>) -> Done {
-    match found {
+// A task reads a rib: its thickness, or that nobody has measured it.
+fn read(rt: &impl Print, wall: &mut Wall<'_>, task: u32, rib: usize) -> Done {
+    match wall.read_row(task, rib)? {
         Some(n) => tell(rt, wall, task, &format_args!("reads rib {rib}, {n} um")),
         None => tell(rt, wall, task, &format_args!("reads rib {rib}, absent")),
     }
@@ -80,31 +91,37 @@ fn run(rt: &impl Print, ribs: &mut [u32]) -> Done {
     wall.open_cached(b"WRR")?;
     println!(rt; "open: task 1 is a writer, tasks 2 and 3 are readers")?;
 
-    // The writer measures with one pass, reads a rib back, and stays on as a reader.
+    // The writer measures, reads a rib back, and stays on as a reader.
     enter(rt, wall, 1)?;
-    let back = passes::measure(wall, 1, &[(0, 1200), (1, 1250), (2, 980)], 1)?;
+    wall.put_row(1, 0, 1200)?;
+    wall.put_row(1, 1, 1250)?;
+    wall.put_row(1, 2, 980)?;
     tell(rt, wall, 1, &"measures ribs 0, 1 and 2")?;
-    tell_rib(rt, wall, 1, 1, back)?;
-    passes::downgrade(wall, 1)?;
+    read(rt, wall, 1, 1)?;
+    wall.downgrade_task(1)?;
     advance(rt, wall, 1, "downgrades")?;
 
     // The readers come in beside it.
     enter(rt, wall, 2)?;
     enter(rt, wall, 3)?;
-    let measured = passes::read(wall, 2, 1)?;
-    tell_rib(rt, wall, 2, 1, measured)?;
-    let absent = passes::read(wall, 3, 5)?;
-    tell_rib(rt, wall, 3, 5, absent)?;
-    leave::<Reading>(rt, wall, 1)?;
-    leave::<Reading>(rt, wall, 3)?;
+    read(rt, wall, 2, 1)?;
+    read(rt, wall, 3, 5)?;
 
-    // Task 2 is alone now, and so its upgrade is granted. Turned down it would only read, and `measure` be refused: 26.
-    passes::upgrade(wall, 2)?;
-    advance(rt, wall, 2, "upgrades")?;
-    let back = passes::measure(wall, 2, &[(1, 1275)], 1)?;
+    // An upgrade is turned down while others are inside: it is obeyed, but the task goes on with its reading right.
+    upgrade(rt, wall, 2)?;
+    let put = wall.put_row(2, 1, 1275);
+    tell_answer(rt, 2, "corrects rib 1", put)?;
+    leave(rt, wall, 1)?;
+    leave(rt, wall, 3)?;
+
+    // Task 2 is alone now, and so its upgrade is granted; it has the writing right then, and cannot upgrade once more.
+    upgrade(rt, wall, 2)?;
+    let again = wall.upgrade_task(2);
+    tell_answer(rt, 2, "upgrades once more", again)?;
+    wall.put_row(2, 1, 1275)?;
     tell(rt, wall, 2, &"corrects rib 1")?;
-    tell_rib(rt, wall, 2, 1, back)?;
-    leave::<Writing>(rt, wall, 2)?;
+    read(rt, wall, 2, 1)?;
+    leave(rt, wall, 2)?;
     println!(rt; "task {} has paid most", wall.costliest()?)?;
     Ok(())
 }
