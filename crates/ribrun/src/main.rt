@@ -64,6 +64,7 @@ fn list<T: Write>(input: &[u8], out: &mut T) -> io::Result<()>
 }
 
 fn main(rt: HostRuntime) -> io::Result<()> {
-    let input = read_input(&mut rt.stdin(), rt.alloc())?;
+    let mut input = Vec::new(rt.alloc());
+    read_input(&mut rt.stdin(), &mut input)?;
     list(input.as_slice(), &mut rt.stdout())
 }
