@@ -1,7 +1,9 @@
-// Lines as they are printed, and buffers that have just room enough or a byte too little.
+// Lines as they are printed, buffers that have just room enough or a byte too little, and lines on their way to a sink.
 use crate::answer::{Answer, Place};
+use crate::output::Output;
 use crate::refusal::Refusal;
 use crate::write::{put_answer, put_note};
+use std::io::ErrorKind;
 use std::process::Abort;
 use std::test::Fail;
 
@@ -70,12 +72,12 @@ fn digits(rt: HostRuntime) -> Result<(), Fail> {
 
 #[test]
 fn just_room_for_an_answer(rt: HostRuntime) {
-    let mut out = [b'.'; 9];
+    let mut out = [b'.'; 64];
     let moved = Answer::Moved(Place::At(17), 1);
-    assert_eq!(rt; put_answer(&mut out[..8], 3, moved), Err(Refusal::Room));
-    assert_eq!(rt; &out[0..9], b".........".as_slice());
+    assert_eq!(rt; put_answer(&mut out[..63], 3, moved), Err(Refusal::Room));
+    assert_eq!(rt; &out[..9], b".........".as_slice());
     assert_eq!(rt; put_answer(&mut out, 13, Answer::Refused(1)), Ok(8));
-    assert_eq!(rt; &out[0..9], b"13 no 1\n.".as_slice());
+    assert_eq!(rt; &out[..9], b"13 no 1\n.".as_slice());
 }
 
 #[test]
@@ -91,9 +93,62 @@ fn just_room(rt: HostRuntime) {
 fn too_little(rt: HostRuntime) {
     let mut out = [b'.'; 9];
     assert_eq!(rt; put_note(&mut out, 5, b"# rib 3"), Err(Refusal::Room));
+    assert_eq!(rt; &out[..9], b".........".as_slice());
+}
+
+#[test]
+fn lines_are_written_once_they_are_flushed(rt: HostRuntime) -> Result<(), Fail> {
+    let mut held = [b'.'; 30];
+    let mut out = Output::new(&mut held[..]);
+    out.put_answer(1, Answer::Opened(2))?;
+    out.put_note(2, b"# rib 3")?;
+    out.put_answer(3, Answer::Refused(20))?;
+    out.flush()?;
+    out.flush()?;
+    assert_eq!(rt; out.into_sink().len(), 5);
+    assert_eq!(rt; &held[..], b"1 ok 2\n2 # rib 3\n3 no 20\n.....".as_slice());
+    Ok(())
+}
+
+#[test]
+fn what_is_held_is_written_once_it_fills_the_buffer(rt: HostRuntime) -> Result<(), Fail> {
+    let mut held = [b'.'; 4100];
+    let mut out = Output::new(&mut held[..]);
+    for _ in 0..578 {
+        out.put_answer(7, Answer::Opened(1))?;
+    }
+    let left = out.into_sink();
+    assert_eq!(rt; left.len(), 4100 - 4039);
+    assert_eq!(rt; &held[4025..4040], b"7 ok 1\n7 ok 1\n.".as_slice());
+    Ok(())
+}
+
+#[test]
+fn a_note_that_is_longer_than_the_buffer(rt: HostRuntime) -> Result<(), Fail> {
+    let note = [b'#'; 5000];
+    let mut held = [b'.'; 5020];
+    let mut out = Output::new(&mut held[..]);
+    out.put_answer(1, Answer::Opened(2))?;
+    out.put_note(2, &note)?;
+    out.put_answer(3, Answer::Refused(24))?;
+    out.flush()?;
+    assert_eq!(rt; &held[..11], b"1 ok 2\n2 ##".as_slice());
+    assert_eq!(rt; &held[5007..], b"##\n3 no 24\n..".as_slice());
+    Ok(())
+}
+
+#[test]
+fn a_sink_that_is_full_is_told(rt: HostRuntime) -> Result<(), Fail> {
+    let mut held = [b'.'; 9];
+    let mut out = Output::new(&mut held[..]);
+    out.put_answer(1, Answer::Opened(2))?;
+    out.put_answer(2, Answer::Opened(3))?;
+    assert!(rt; out.flush().unwrap_err().kind() == ErrorKind::WriteZero);
+    assert!(rt; out.flush().is_ok());
     assert_eq!(rt;
-        put_answer(&mut out, 3, Answer::Moved(Place::At(17), 1)),
-        Err(Refusal::Room)
+        out.put_note(3, &[b'#'; 5000]).unwrap_err().kind(),
+        ErrorKind::WriteZero
     );
-    assert_eq!(rt; &out[0..9], b".........".as_slice());
+    assert_eq!(rt; &held[..], b"1 ok 2\n2 ".as_slice());
+    Ok(())
 }

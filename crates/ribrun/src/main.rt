@@ -28,6 +28,7 @@ fn list<S: Sink>(input: &[u8], out: &mut Output<S>) -> Result<(), S::Error>
 }
 
 fn main(rt: HostRuntime) -> io::Result<()> {
-    let input = read_input(&mut rt.stdin(), rt.alloc())?;
+    let mut input = Vec::new(rt.alloc());
+    read_input(&mut rt.stdin(), &mut input)?;
     list(input.as_slice(), &mut Output::new(rt.stdout()))
 }

@@ -1,5 +1,5 @@
-// Reading an input from readers that give little at a time, are interrupted, or fail, and writing a listing where there is
-// too little room for it.
+// Reading an input from readers that give little at a time, are interrupted, or fail, or where there is too little room for
+// it, and writing a listing where there is too little room for it.
 use crate::list;
 use crate::reading::read_input;
 use listing::output::Output;
@@ -43,27 +43,42 @@ fn reader_that(fails: u32) -> Shaky<'static> {
 
 #[test]
 fn an_interrupted_read_is_tried_again(rt: HostRuntime) -> Result<(), Fail> {
-    let input = read_input(&mut reader_that(0), rt.alloc())?;
+    let mut input = Vec::new(rt.alloc());
+    assert_eq!(rt; read_input(&mut reader_that(0), &mut input)?, 12);
     assert_eq!(rt; input.as_slice(), TEXT);
     Ok(())
 }
 
 #[test]
-fn a_read_that_fails_is_told(rt: HostRuntime) {
-    assert!(rt; read_input(&mut reader_that(3), rt.alloc()).is_err());
-    assert!(rt; read_input(&mut reader_that(1), rt.alloc()).is_err());
+fn a_read_that_fails_is_told_as_it_is(rt: HostRuntime) {
+    for (fails, read) in [(1, 0), (3, 3), (5, 9)] {
+        let mut input = Vec::new(rt.alloc());
+        let why = read_input(&mut reader_that(fails), &mut input).unwrap_err();
+        assert!(rt; why.kind() == ErrorKind::NotConnected);
+        assert_eq!(rt; input.as_slice(), &TEXT[..read]);
+    }
 }
 
 #[test]
 fn an_input_is_read_no_further_than_it_says_something(rt: HostRuntime) -> Result<(), Fail> {
     let long = [b'#'; 70_000];
     let mut reader = &long[..];
-    let input = read_input(&mut reader, rt.alloc())?;
-    assert!(rt; input.len() > 65_536);
-    assert!(rt; !reader.is_empty());
-    let mut reader = &long[..65_536];
-    assert_eq!(rt; read_input(&mut reader, rt.alloc())?.len(), 65_536);
+    let mut input = Vec::new(rt.alloc());
+    assert_eq!(rt; read_input(&mut reader, &mut input)?, 69_632);
+    assert_eq!(rt; reader.len(), 368);
+    let mut input = Vec::new(rt.alloc());
+    assert_eq!(rt; read_input(&mut &long[..65_536], &mut input)?, 65_536);
+    assert_eq!(rt; input.len(), 65_536);
     Ok(())
+}
+
+#[test]
+fn an_input_for_which_there_is_no_room_is_told(rt: HostRuntime) {
+    let mut held = [0; 4];
+    let mut room = &mut held[..];
+    let why = read_input(&mut reader_that(0), &mut room).unwrap_err();
+    assert!(rt; why.kind() == ErrorKind::WriteZero);
+    assert_eq!(rt; &held[..], &TEXT[..4]);
 }
 
 #[test]
