@@ -68,6 +68,14 @@ fn one_that(fails: u32) -> Shaky<'static> {
     }
 }
 
+// Why it failed, where it did.
+fn kind_of<T: Drop>(told: io::Result<T>) -> Option<ErrorKind> {
+    match told {
+        Ok(_) => None,
+        Err(why) => Some(why.kind()),
+    }
+}
+
 #[test]
 fn an_interrupted_write_is_tried_again(rt: HostRuntime) -> Result<(), Fail> {
     let mut out = one_that(0);
@@ -81,17 +89,22 @@ fn an_interrupted_write_is_tried_again(rt: HostRuntime) -> Result<(), Fail> {
 #[test]
 fn a_write_that_fails_is_told_as_it_is(rt: HostRuntime) {
     let mut out = one_that(5);
-    let why = write_all(&mut out, TEXT).unwrap_err();
-    assert!(rt; why.kind() == ErrorKind::NotConnected);
-    assert_eq!(rt; &out.taken[..out.count], &b"ten by"[..]);
+    assert_eq!(rt;
+        kind_of(write_all(&mut out, TEXT)),
+        Some(ErrorKind::NotConnected)
+    );
+    assert_eq!(rt; out.count, 6);
+    assert_eq!(rt; &out.taken[..6], &b"ten by"[..]);
 }
 
 #[test]
 fn a_writer_that_takes_nothing_fails(rt: HostRuntime) {
     let mut held = [0; 4];
     let mut out = &mut held[..];
-    let why = write_all(&mut out, TEXT).unwrap_err();
-    assert!(rt; why.kind() == ErrorKind::WriteZero);
+    assert_eq!(rt;
+        kind_of(write_all(&mut out, TEXT)),
+        Some(ErrorKind::WriteZero)
+    );
     assert_eq!(rt; &held[..], &b"ten "[..]);
     let mut out = &mut held[..0];
     assert!(rt; write_all(&mut out, b"").is_ok());
@@ -114,8 +127,10 @@ fn an_interrupted_read_is_tried_again(rt: HostRuntime) -> Result<(), Fail> {
 #[test]
 fn a_read_that_fails_is_told_as_it_is(rt: HostRuntime) {
     let mut room = [0; 16];
-    let why = fill(&mut one_that(5), &mut room).unwrap_err();
-    assert!(rt; why.kind() == ErrorKind::NotConnected);
+    assert_eq!(rt;
+        kind_of(fill(&mut one_that(5), &mut room)),
+        Some(ErrorKind::NotConnected)
+    );
     assert_eq!(rt; &room[..7], &b"ten by\0"[..]);
     assert!(rt; fill(&mut one_that(1), &mut room).is_err());
 }
