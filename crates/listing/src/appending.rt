@@ -70,7 +70,6 @@ impl<S: Sink> Output<S> {
     }
 
     /// Appends the line `number` of the listing, for a note. The error is the sink's.
-    #[inline(always)]
     pub fn put_note(&mut self, number: u32, text: &[u8]) -> Result<(), S::Error>
         ensures appended { Appended S.contents (noted number text.now) self.old result self.new }
         ensures text { Grows S.contents (noted number text.now) self.old result self.new }

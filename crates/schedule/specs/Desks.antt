@@ -1,4 +1,4 @@
--- What a desk is: a board, which tells the pair of memory and queue that was chosen, and its four locks as calls see them.
+-- What the locks of a desk are: a board, which tells the pair of memory and queue that was chosen, and each lock as calls see it.
 use Rattle.std.specs.Borrow.{MutBor}
 use Rattle.std.specs.Prelude.{◌≡◌, ℕ, false, cond, is_ok, List, [], Some, None, Err, Option, Result}
 use Rattle.memory.specs.declared.interface.Memory.{Ghosts as MemoryGhosts}
@@ -23,8 +23,9 @@ use Rattle.script.specs.declared.call.QueueKind.TheVariants.{Ring, Masks}
 use Rattle.script.specs.Calls.{Ask, opening, begin, advance, upgrade, downgrade, leave, read, put}
 use Rattle.listing.specs.declared.answer.Answer.{Answer}
 use Rattle.schedule.specs.declared.desk.Desk.{Desk}
+use Rattle.schedule.specs.declared.desk.Locks.{Locks}
 use Rattle.schedule.specs.declared.desk.Pair.{Pair}
-use Rattle.schedule.specs.Answers.{tell}
+use Rattle.schedule.specs.Answers.{opened, opened_told, tell}
 
 pub record Board : Type 0 where
   pub chosen : Option Pair
@@ -95,38 +96,44 @@ ring = record { waiting = λ s. round s.numbers s.start s.count }
 abbrev pub masks : QueueGhosts MasksQueue
 masks = record { waiting = λ s. waiting_of s.before s.who }
 
--- a desk of the code, as a board
-abbrev pub board : Desk → Board
-board d =
+-- the locks of a desk, as a board
+abbrev pub board : Locks → Board
+board l =
     record {
-      chosen = d.chosen;
-      words_ring = seen words ring d.words_ring;
-      words_masks = seen words masks d.words_masks;
-      packed_ring = seen packed ring d.packed_ring;
-      packed_masks = seen packed masks d.packed_masks;
+      chosen = l.chosen;
+      words_ring = seen words ring l.words_ring;
+      words_masks = seen words masks l.words_masks;
+      packed_ring = seen packed ring l.packed_ring;
+      packed_masks = seen packed masks l.packed_masks;
     }
 
--- over the tables that were lent to it
-pub record SameTables (d e : Desk) : Type 0 where
-  pub words_ring : e.words_ring.table.ghost_name ≡ d.words_ring.table.ghost_name
-  pub words_masks : e.words_masks.table.ghost_name ≡ d.words_masks.table.ghost_name
-  pub packed_ring : e.packed_ring.table.ghost_name ≡ d.packed_ring.table.ghost_name
-  pub packed_masks : e.packed_masks.table.ghost_name ≡ d.packed_masks.table.ghost_name
+-- over the tables that were lent to them
+pub record SameTables (l m : Locks) : Type 0 where
+  pub words_ring : m.words_ring.table.ghost_name ≡ l.words_ring.table.ghost_name
+  pub words_masks : m.words_masks.table.ghost_name ≡ l.words_masks.table.ghost_name
+  pub packed_ring : m.packed_ring.table.ghost_name ≡ l.packed_ring.table.ghost_name
+  pub packed_masks : m.packed_masks.table.ghost_name ≡ l.packed_masks.table.ghost_name
 
--- the desk d tells o of the call a and is then e
-abbrev pub DeskTells : Desk → Ask → Result Answer Refusal → Desk → Type 0
-DeskTells d a o e = ◌≡◌ {A = Result Answer Refusal × Board} (o, board e) (board_tells a (board d)) × SameTables d e
+-- the call a is made, which is told o and leaves the locks l as m
+abbrev pub LocksTell : Locks → Ask → Result Answer Refusal → Locks → Type 0
+LocksTell l a o m = ◌≡◌ {A = Result Answer Refusal × Board} (o, board m) (board_tells a (board l)) × SameTables l m
 
--- the call a is made to the lock of the pair, which tells o, and the desk is then e; which pair is chosen stays
-abbrev pub PairTells : Pair → Desk → Ask → Result Answer Refusal → Desk → Type 0
-PairTells p d a o e =
-    (let r = tell (limit_of p.memory) a (lock_of p.memory p.queue (board d)) in ◌≡◌ {A = Result Answer Refusal × Board} (o, board e) (r.0, with_lock p.memory p.queue r.1 d.chosen (board d)))
-    × SameTables d e
+-- the lock of the pair is given over to a call, which comes to o; which pair is chosen stays
+abbrev pub AtPair : Pair → Locks → (ℕ → Counted → Result Answer Refusal × Counted) → Result Answer Refusal → Locks → Type 0
+AtPair p l call o m =
+    (let r = call (limit_of p.memory) (lock_of p.memory p.queue (board l)) in ◌≡◌ {A = Result Answer Refusal × Board} (o, board m) (r.0, with_lock p.memory p.queue r.1 l.chosen (board l)))
+    × SameTables l m
+
+abbrev pub PairTells : Pair → Locks → Ask → Result Answer Refusal → Locks → Type 0
+PairTells p l a o m = AtPair p l (λ limit x. tell limit a x) o m
+
+abbrev pub PairOpens : Pair → Locks → List ℕ → Result ℕ Refusal → Locks → Type 0
+PairOpens p l roles r m = AtPair p l (λ limit x. opened limit roles x) (opened_told r) m
 
 -- a desk over four lent tables
 pub record DeskOver (a b c e : MutBor (List ℕ)) (d : Desk) : Type 0 where
-  pub closed : board d ≡ closed_board a.now b.now c.now e.now
-  pub first : d.words_ring.table.ghost_name ≡ a.ghost_name
-  pub second : d.words_masks.table.ghost_name ≡ b.ghost_name
-  pub third : d.packed_ring.table.ghost_name ≡ c.ghost_name
-  pub fourth : d.packed_masks.table.ghost_name ≡ e.ghost_name
+  pub closed : board d.locks ≡ closed_board a.now b.now c.now e.now
+  pub first : d.locks.words_ring.table.ghost_name ≡ a.ghost_name
+  pub second : d.locks.words_masks.table.ghost_name ≡ b.ghost_name
+  pub third : d.locks.packed_ring.table.ghost_name ≡ c.ghost_name
+  pub fourth : d.locks.packed_masks.table.ghost_name ≡ e.ghost_name

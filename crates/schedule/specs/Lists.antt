@@ -49,4 +49,4 @@ module _ {K E : Type 0} (contents : K → Option (List ℕ)) where
 
 -- no line is left for whoever answers now
 abbrev pub IsOver : Schedule → Type 0
-IsOver s = (is_some s.desk.now.chosen ≡ true) ⊎ (to_come s.reader ≡ [])
+IsOver s = (is_some s.desk.now.locks.chosen ≡ true) ⊎ (to_come s.reader ≡ [])

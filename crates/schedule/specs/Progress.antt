@@ -28,11 +28,11 @@ pub record Progress : Type 0 where
 
 -- a schedule of the code
 abbrev pub progress : Schedule → Progress
-progress s = record { untold = s.untold; number = s.reader.number; left = to_come s.reader; board = board s.desk.now }
+progress s = record { untold = s.untold; number = s.reader.number; left = to_come s.reader; board = board s.desk.now.locks }
 
 -- at the same desk, over the same tables
 abbrev pub SameDesk : Schedule → Schedule → Type 0
-SameDesk s t = (t.desk.ghost_name ≡ s.desk.ghost_name) × SameTables s.desk.now t.desk.now
+SameDesk s t = (t.desk.ghost_name ≡ s.desk.ghost_name) × SameTables s.desk.now.locks t.desk.now.locks
 
 -- before its first line: an input that is too long has no line
 abbrev pub begun : List ℕ → Board → Progress

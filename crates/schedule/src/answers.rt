@@ -68,7 +68,10 @@ enum Done {
 // Opens the lock, and tells how many tasks there then are. (Apart from the other calls, since a schedule opens seldom and
 // the new records need much room.)
 #[inline(never)]
-fn open<S: Store, Q: Queue>(lock: &mut Lock<'_, Cache<S>, Q>, roles: &[u8]) -> Result<u32, Refusal>
+pub(crate) fn open<S: Store, Q: Queue>(
+    lock: &mut Lock<'_, Cache<S>, Q>,
+    roles: &[u8],
+) -> Result<u32, Refusal>
     ensures { Opens ⟦<S as Memory>⟧ Q.Queue S.LIMIT lock.old roles.now result lock.new }
 {
     lock.open_cached(roles)?;

@@ -15,12 +15,18 @@ pub struct Pair {
     pub queue: QueueKind,
 }
 
-/// Four locks, over four tables that are lent to the desk for as long as it lives, and the pair that was chosen.
+// Four locks, and the pair that was chosen.
 #[derive(Drop)]
-pub struct Desk<'a> {
+pub(crate) struct Locks<'a> {
     pub(crate) chosen: Option<Pair>,
     pub(crate) words_ring: Lock<'a, Cache<Words>, Ring>,
     pub(crate) words_masks: Lock<'a, Cache<Words>, Masks>,
     pub(crate) packed_ring: Lock<'a, Cache<Packed>, Ring>,
     pub(crate) packed_masks: Lock<'a, Cache<Packed>, Masks>,
+}
+
+/// A desk with its locks, over four tables that are lent to it for as long as it lives.
+#[derive(Drop)]
+pub struct Desk<'a> {
+    pub(crate) locks: Locks<'a>,
 }

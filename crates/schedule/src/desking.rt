@@ -1,9 +1,10 @@
 // The calls of a schedule at the desk.
-ghost use Rattle.std.specs.Prelude.{◌≡◌, is_some};
+ghost use Rattle.std.specs.Prelude.{◌≡◌, false, is_some};
 ghost use Rattle.script.specs.Calls.{ask};
-ghost use Rattle.schedule.specs.Desks.{DeskOver, DeskTells, PairTells, pair_for};
+ghost use Rattle.schedule.specs.Desks.{DeskOver, LocksTell, PairOpens, PairTells};
 
-use crate::desk::{Desk, Pair};
+use crate::answers::open;
+use crate::desk::{Desk, Locks, Pair};
 use crate::serving::Serve;
 use cache::layer::Cache;
 use calls::refusal::Refusal;
@@ -15,14 +16,44 @@ use queue::ring::Ring;
 use script::call::{Call, MemoryKind, QueueKind};
 use words::array::Words;
 
-// The pair to which a call goes: the one that was chosen, or the one that O names.
-fn pair_for(chosen: Option<Pair>, call: Call<'_>) -> Option<Pair>
-    ensures { result ≡ pair_for chosen (ask call.entry) }
-{
-    match (chosen, call) {
-        (Some(pair), _) => Some(pair),
-        (None, Call::Open(memory, queue, _)) => Some(Pair { memory, queue }),
-        (None, _) => None,
+impl Locks<'_> {
+    // Makes the call to the lock of the pair. A match and no `dyn`: the four pairs are all there are, and
+    // the contract speaks of each lock by its types.
+    fn answer_at(&mut self, pair: Pair, call: Call<'_>) -> Result<Answer, Refusal>
+        ensures { PairTells pair self.old (ask call.entry) result self.new }
+    {
+        match (pair.memory, pair.queue) {
+            (MemoryKind::Words, QueueKind::Ring) => self.words_ring.answer(call),
+            (MemoryKind::Words, QueueKind::Masks) => self.words_masks.answer(call),
+            (MemoryKind::Packed, QueueKind::Ring) => self.packed_ring.answer(call),
+            (MemoryKind::Packed, QueueKind::Masks) => self.packed_masks.answer(call),
+        }
+    }
+
+    // Opens the lock of the pair, and tells how many tasks it then has.
+    fn open_at(&mut self, pair: Pair, roles: &[u8]) -> Result<u32, Refusal>
+        ensures { PairOpens pair self.old roles.now result self.new }
+    {
+        match (pair.memory, pair.queue) {
+            (MemoryKind::Words, QueueKind::Ring) => open(&mut self.words_ring, roles),
+            (MemoryKind::Words, QueueKind::Masks) => open(&mut self.words_masks, roles),
+            (MemoryKind::Packed, QueueKind::Ring) => open(&mut self.packed_ring, roles),
+            (MemoryKind::Packed, QueueKind::Masks) => open(&mut self.packed_masks, roles),
+        }
+    }
+
+    // Makes the call where no lock is chosen: an O that is obeyed has chosen its lock. Refused: 10, where it is no O.
+    fn answer_closed(&mut self, call: Call<'_>) -> Result<Answer, Refusal>
+        requires { is_some self.old.chosen ≡ false }
+        ensures { LocksTell self.old (ask call.entry) result self.new }
+    {
+        let Call::Open(memory, queue, roles) = call else {
+            return Err(Refusal::Shut);
+        };
+        let pair = Pair { memory, queue };
+        let tasks = self.open_at(pair, roles)?;
+        self.chosen = Some(pair);
+        Ok(Answer::Opened(tasks))
     }
 }
 
@@ -38,44 +69,47 @@ impl<'a> Desk<'a> {
         ensures { DeskOver words_ring.entry words_masks.entry packed_ring.entry packed_masks.entry result }
     {
         Desk {
-            chosen: None,
-            words_ring: Lock::new(1, Cache::new(Words::new()), Ring::new(), words_ring),
-            words_masks: Lock::new(1, Cache::new(Words::new()), Masks::new(), words_masks),
-            packed_ring: Lock::new(1, Cache::new(Packed::new()), Ring::new(), packed_ring),
-            packed_masks: Lock::new(1, Cache::new(Packed::new()), Masks::new(), packed_masks),
-        }
-    }
-
-    // Makes the call to the lock of the pair. A match and no `dyn`: the four pairs are all there are, and
-    // the contract speaks of each lock by its types.
-    fn answer_at(&mut self, pair: Pair, call: Call<'_>) -> Result<Answer, Refusal>
-        ensures { PairTells pair self.old (ask call.entry) result self.new }
-    {
-        match (pair.memory, pair.queue) {
-            (MemoryKind::Words, QueueKind::Ring) => self.words_ring.answer(call),
-            (MemoryKind::Words, QueueKind::Masks) => self.words_masks.answer(call),
-            (MemoryKind::Packed, QueueKind::Ring) => self.packed_ring.answer(call),
-            (MemoryKind::Packed, QueueKind::Masks) => self.packed_masks.answer(call),
+            locks: Locks {
+                chosen: None,
+                words_ring: Lock::new(1, Cache::new(Words::new()), Ring::new(), words_ring),
+                words_masks: Lock::new(1, Cache::new(Words::new()), Masks::new(), words_masks),
+                packed_ring: Lock::new(1, Cache::new(Packed::new()), Ring::new(), packed_ring),
+                packed_masks: Lock::new(1, Cache::new(Packed::new()), Masks::new(), packed_masks),
+            },
         }
     }
 }
 
 // Until a lock is chosen.
-impl Serve for Desk<'_> {
-    ghost serves = { DeskTells };
+impl Serve for Locks<'_> {
+    ghost serves = { LocksTell };
 
-    ghost done = { λ d. is_some d.chosen };
+    ghost done = { λ l. is_some l.chosen };
 
-    // Makes the call, and tells what a listing says of it: an obeyed one has chosen its lock. Before an O is obeyed any other
-    // call is refused: 10.
     fn answer(&mut self, call: Call<'_>) -> Result<Answer, Refusal> {
-        let pair = pair_for(self.chosen, call).ok_or(Refusal::Shut)?;
-        let told = self.answer_at(pair, call)?;
-        self.chosen = Some(pair);
-        Ok(told)
+        self.answer_closed(call)
     }
 
     fn is_done(&self) -> bool {
         self.chosen.is_some()
+    }
+}
+
+// In any state.
+impl Serve for Desk<'_> {
+    ghost serves = { λ d a o e. LocksTell d.locks a o e.locks };
+
+    ghost done = { λ d. false };
+
+    // Makes the call, and tells what a listing says of it. Before an O is obeyed any other call is refused: 10.
+    fn answer(&mut self, call: Call<'_>) -> Result<Answer, Refusal> {
+        match self.locks.chosen {
+            Some(pair) => self.locks.answer_at(pair, call),
+            None => self.locks.answer_closed(call),
+        }
+    }
+
+    fn is_done(&self) -> bool {
+        false
     }
 }

@@ -1,11 +1,8 @@
 // The listing of a schedule, appended to an output.
 ghost use Rattle.std.specs.Prelude.{◌≡◌, ◌≤◌, ◌⊎◌, [], true, None, length, OnOk};
-ghost use Rattle.listing.specs.Outputs.{Appended};
 ghost use Rattle.script.specs.Reading.{to_come};
-ghost use Rattle.schedule.specs.Listing.{heard_bytes};
 ghost use Rattle.schedule.specs.Lists.{IsOver, ListsInto, ListsOnInto};
 ghost use Rattle.schedule.specs.Progress.{Prints, SameDesk, TellsWhole};
-ghost use Rattle.schedule.specs.Replies.{heard};
 
 use crate::replies::{Reply, reply_of};
 use crate::schedule::Schedule;
@@ -15,18 +12,6 @@ use listing::output::Output;
 use script::call::{MemoryKind, QueueKind};
 use script::reader::Reader;
 use streams::sink::Sink;
-
-// Appends the line `number` of the listing.
-#[inline(always)]
-fn append<S: Sink>(out: &mut Output<S>, number: u32, reply: Reply<'_>) -> Result<(), S::Error>
-    ensures { Appended S.contents (heard_bytes number (heard reply.entry)) out.old result out.new }
-{
-    match reply {
-        Reply::Nothing => Ok(()),
-        Reply::Note(text) => out.put_note(number, text),
-        Reply::Answered(answer) => out.put_answer(number, answer),
-    }
-}
 
 // Does lines until none is left or another answers, and appends their lines of the listing. (Not inlined: one function for
 // each lock, which the compiler can survey.)
@@ -46,7 +31,11 @@ fn list_lines<V: Serve, S: Sink>(
             return Ok(());
         };
         let number = reader.number() as u32;
-        append(out, number, reply_of(server, text))?;
+        match reply_of(server, text) {
+            Reply::Nothing => (),
+            Reply::Note(note) => out.put_note(number, note)?,
+            Reply::Answered(answer) => out.put_answer(number, answer)?,
+        }
     }
     Ok(())
 }
@@ -69,7 +58,7 @@ impl Schedule<'_, '_, '_> {
         ensures over { OnOk result (IsOver self.new) }
         ensures same { SameDesk self.old self.new }
     {
-        list_lines(&mut self.reader, &mut *self.desk, out)
+        list_lines(&mut self.reader, &mut self.desk.locks, out)
     }
 
     // Once a lock is chosen, does all lines that are left.
@@ -80,15 +69,15 @@ impl Schedule<'_, '_, '_> {
         ensures same { SameDesk self.old self.new }
     {
         let reader = &mut self.reader;
-        let desk = &mut *self.desk;
-        let Some(pair) = desk.chosen else {
+        let locks = &mut self.desk.locks;
+        let Some(pair) = locks.chosen else {
             return Ok(());
         };
         match (pair.memory, pair.queue) {
-            (MemoryKind::Words, QueueKind::Ring) => list_lines(reader, &mut desk.words_ring, out),
-            (MemoryKind::Words, QueueKind::Masks) => list_lines(reader, &mut desk.words_masks, out),
-            (MemoryKind::Packed, QueueKind::Ring) => list_lines(reader, &mut desk.packed_ring, out),
-            (MemoryKind::Packed, QueueKind::Masks) => list_lines(reader, &mut desk.packed_masks, out),
+            (MemoryKind::Words, QueueKind::Ring) => list_lines(reader, &mut locks.words_ring, out),
+            (MemoryKind::Words, QueueKind::Masks) => list_lines(reader, &mut locks.words_masks, out),
+            (MemoryKind::Packed, QueueKind::Ring) => list_lines(reader, &mut locks.packed_ring, out),
+            (MemoryKind::Packed, QueueKind::Masks) => list_lines(reader, &mut locks.packed_masks, out),
         }
     }
 

@@ -34,7 +34,7 @@ fn put_reply(out: &mut [u8], number: u32, reply: Reply<'_>) -> usize
 impl<'s, 'b, 'a> Schedule<'s, 'b, 'a> {
     /// The schedule with this text, its calls made at this desk.
     pub fn new(input: &'s [u8], desk: &'b mut Desk<'a>) -> Schedule<'s, 'b, 'a>
-        ensures begun { progress result ≡ begun input.now (board desk.old) }
+        ensures begun { progress result ≡ begun input.now (board desk.old.locks) }
         ensures desk { result.desk.ghost_name ≡ desk.entry.ghost_name }
         ensures tables { result.desk.now ≡ desk.old }
     {

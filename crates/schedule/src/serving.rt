@@ -1,5 +1,6 @@
-// What answers the calls of a schedule: a desk, whose lock may not be chosen yet, or a lock.
-ghost use Rattle.std.specs.Prelude.{◌≡◌, Bool, Result};
+// What answers the calls of a schedule: a desk that has not chosen its lock yet, a lock that was chosen, or a desk in any
+// state.
+ghost use Rattle.std.specs.Prelude.{◌≡◌, Bool, false, Result};
 ghost use Rattle.calls.specs.declared.refusal.Refusal.{Refusal as LockRefusal};
 ghost use Rattle.listing.specs.declared.answer.Answer.{Answer as Told};
 ghost use Rattle.script.specs.Calls.{Ask, ask};
@@ -17,6 +18,7 @@ pub(crate) trait Serve {
 
     // Makes the call, and tells what a listing says of it.
     fn answer(&mut self, call: Call<'_>) -> Result<Answer, Refusal>
+        requires { done self.old ≡ false }
         ensures { serves self.old (ask call.entry) result self.new };
 
     // Whether another answers from now on.

@@ -1,16 +1,21 @@
 use Rattle.std.proofs.Common.{◌≡◌, ℕ, ◌+◌, List, None, Some, Option, Result, refl, sym, ap, ◌∙◌, subst, rules, arith}
 use Rattle.listing.specs.Written.{TookBytes}
-use Rattle.script.specs.Calls.{parse}
+use Rattle.calls.specs.declared.refusal.Refusal.{Refusal as LockRefusal}
+use Rattle.listing.specs.declared.answer.Answer.{Answer}
+use Rattle.script.specs.Calls.{Ask, parse}
 use Rattle.script.specs.Reading.{to_come}
 use Rattle.schedule.specs.declared.desk.Desk.{Desk}
 use Rattle.schedule.specs.declared.refusal.Refusal.{Refusal}
-use Rattle.schedule.specs.Desks.{Board, DeskTells, board}
+use Rattle.schedule.specs.Desks.{Board, LocksTell, board}
 use Rattle.schedule.specs.Listing.{heard_bytes, reply_bytes}
 use Rattle.schedule.specs.Progress.{GivesLine, Progress, progress}
 use Rattle.schedule.specs.Replies.{Heard, heard}
 use Rattle.schedule.proofs.Printed.{next_is}
 use Rattle.schedule.proofs.Runs.{line_keeps, line_seen}
 use Rattle.schedule.proofs.schedule.Schedule.line_bytes.Goals as goal
+
+abbrev Told : Desk → Ask → Result Answer LockRefusal → Desk → Type 0
+Told d a o e = LocksTell d.locks a o e.locks
 
 pub returns-clause-gives : goal.returns-clause-gives
 returns-clause-gives c =
@@ -19,7 +24,7 @@ returns-clause-gives c =
     let line = c.in-Some-next_line.ensures in
     let q = c.next_line.new.self in
     let (r, obeyed, tells) = c.reply_of-reply.ensures.replies in
-    let seen = line_seen DeskTells board (λ d a o e t. t.0) (parse text) s.desk.now c.reply_of-reply.new.server r obeyed in
+    let seen = line_seen Told (λ (d : Desk). board d.locks) (λ d a o e t. t.0) (parse text) s.desk.now c.reply_of-reply.new.server r obeyed in
     let told : s.untold ≡ None = search rules in
     let still : c.take.new.self ≡ None = search rules in
     let is = next_is (progress s) text (to_come q) told line.first in
@@ -39,9 +44,9 @@ returns-clause-same c =
     let (r, obeyed, tells) = c.reply_of-reply.ensures.replies in (
       refl,
       record {
-        words_ring = line_keeps DeskTells (λ (d : Desk). d.words_ring.table.ghost_name) (λ d a o e t. t.1.words_ring) said d e r obeyed;
-        words_masks = line_keeps DeskTells (λ (d : Desk). d.words_masks.table.ghost_name) (λ d a o e t. t.1.words_masks) said d e r obeyed;
-        packed_ring = line_keeps DeskTells (λ (d : Desk). d.packed_ring.table.ghost_name) (λ d a o e t. t.1.packed_ring) said d e r obeyed;
-        packed_masks = line_keeps DeskTells (λ (d : Desk). d.packed_masks.table.ghost_name) (λ d a o e t. t.1.packed_masks) said d e r obeyed;
+        words_ring = line_keeps Told (λ (d : Desk). d.locks.words_ring.table.ghost_name) (λ d a o e t. t.1.words_ring) said d e r obeyed;
+        words_masks = line_keeps Told (λ (d : Desk). d.locks.words_masks.table.ghost_name) (λ d a o e t. t.1.words_masks) said d e r obeyed;
+        packed_ring = line_keeps Told (λ (d : Desk). d.locks.packed_ring.table.ghost_name) (λ d a o e t. t.1.packed_ring) said d e r obeyed;
+        packed_masks = line_keeps Told (λ (d : Desk). d.locks.packed_masks.table.ghost_name) (λ d a o e t. t.1.packed_masks) said d e r obeyed;
       },
     )
