@@ -1,11 +1,12 @@
 // Appending lines to an output, and writing what it holds.
-ghost use Rattle.std.specs.Prelude.{◌≡◌, ◌≤◌, [], IfOk, OnErr};
+ghost use Rattle.std.specs.Prelude.{◌≡◌, ◌≤◌, [], IfOk, OnErr, nat_lt};
 ghost use Rattle.streams.specs.Streams.{Writes};
 ghost use Rattle.listing.specs.Listing.{noted, shown};
-ghost use Rattle.listing.specs.Outputs.{Appended, Grows, held};
+ghost use Rattle.listing.specs.Outputs.{Appended, Grows, Holds, held};
 
 use crate::answer::Answer;
 use crate::output::{Output, SIZE};
+use crate::refusal::Refusal;
 use crate::write;
 use crate::write::{put_heading, put_line};
 use streams::sink::Sink;
@@ -33,10 +34,32 @@ impl<S: Sink> Output<S> {
     pub fn flush(&mut self) -> Result<(), S::Error>
         ensures written { Writes (held self.old) (S.contents self.old.sink) (S.contents self.new.sink) result }
         ensures empty { held self.new ≡ [] }
+        ensures none { self.new.count ≡ 0 }
     {
         let count = self.count;
         self.count = 0;
         write_all(&mut self.sink, &self.bytes[..count])
+    }
+
+    /// Whether there may be too little room for the next line, unless what is held is written first.
+    #[inline(always)]
+    pub fn is_full(&self) -> bool
+        ensures { result ≡ nat_lt 4032 self.now.count }
+    {
+        FULL < self.count
+    }
+
+    /// Appends the line `number` of the listing, for a call that gave `answer`, to what is held. Refused: 39, where it is full,
+    /// and then all is as it was. (As `put_answer`, for a loop that asks and flushes itself: an error of a sink may be large.)
+    #[inline(always)]
+    pub fn hold_answer(&mut self, number: u32, answer: Answer) -> Result<(), Refusal>
+        ensures { Holds (shown number answer) self.old result self.new }
+    {
+        if self.count > FULL {
+            return Err(Refusal::Room);
+        }
+        self.count += put_line(&mut self.bytes[self.count..], number, answer);
+        Ok(())
     }
 
     // Where the next line begins, for which there is room unless it is a long note: behind what is held, which is written

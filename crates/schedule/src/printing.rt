@@ -27,6 +27,9 @@ fn list_lines<V: Serve, S: Sink>(
     ensures input { reader.new.input.now ≡ reader.old.input.now }
 {
     while !server.is_done() {
+        if out.is_full() {
+            out.flush()?;
+        }
         let Some(text) = reader.next_line() else {
             return Ok(());
         };
@@ -34,7 +37,7 @@ fn list_lines<V: Serve, S: Sink>(
         match reply_of(server, text) {
             Reply::Nothing => (),
             Reply::Note(note) => out.put_note(number, note)?,
-            Reply::Answered(answer) => out.put_answer(number, answer)?,
+            Reply::Answered(answer) => out.hold_answer(number, answer).unwrap(),
         }
     }
     Ok(())
