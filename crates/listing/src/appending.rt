@@ -1,5 +1,5 @@
 // Appending lines to an output, and writing what it holds.
-ghost use Rattle.std.specs.Prelude.{◌≡◌, ◌≤◌, [], IfOk, OnErr, nat_lt};
+ghost use Rattle.std.specs.Prelude.{◌≡◌, ◌≤◌, [], IfOk, OnErr};
 ghost use Rattle.streams.specs.Streams.{Writes};
 ghost use Rattle.listing.specs.Listing.{noted, shown};
 ghost use Rattle.listing.specs.Outputs.{Appended, Grows, Holds, held};
@@ -41,24 +41,18 @@ impl<S: Sink> Output<S> {
         write_all(&mut self.sink, &self.bytes[..count])
     }
 
-    /// Whether there may be too little room for the next line, unless what is held is written first.
-    #[inline(always)]
-    pub fn is_full(&self) -> bool
-        ensures { result ≡ nat_lt 4032 self.now.count }
-    {
-        FULL < self.count
-    }
-
     /// Appends the line `number` of the listing, for a call that gave `answer`, to what is held. Refused: 39, where it is full,
-    /// and then all is as it was. (As `put_answer`, for a loop that asks and flushes itself: an error of a sink may be large.)
+    /// and then all is as it was. (As `put_answer`, which a loop turns to where this is refused: a sink's error may be large, and is not to be moved for
+    /// each line.)
     #[inline(always)]
     pub fn hold_answer(&mut self, number: u32, answer: Answer) -> Result<(), Refusal>
         ensures { Holds (shown number answer) self.old result self.new }
     {
-        if self.count > FULL {
+        let at = self.count;
+        if at > FULL {
             return Err(Refusal::Room);
         }
-        self.count += put_line(&mut self.bytes[self.count..], number, answer);
+        self.count = at + put_line(&mut self.bytes[at..], number, answer);
         Ok(())
     }
 
@@ -109,7 +103,7 @@ impl<S: Sink> Output<S> {
     }
 
     /// Appends the line `number` of the listing, for a call that gave `answer`. The error is the sink's.
-    #[inline(always)]
+    #[cold]
     pub fn put_answer(&mut self, number: u32, answer: Answer) -> Result<(), S::Error>
         ensures appended { Appended S.contents (shown number answer) self.old result self.new }
         ensures text { Grows S.contents (shown number answer) self.old result self.new }
