@@ -26,6 +26,10 @@ passed_none bytes a = record { written = []; whole = append-nil bytes; wrote = a
 pub none_passed : (bytes : List ℕ) (a : Option (List ℕ)) → Passed bytes a bytes a
 none_passed bytes a = record { written = []; whole = refl; wrote = appends_none a }
 
+-- all is written
+pub all_passed : (bytes rest : List ℕ) (a b : Option (List ℕ)) → Appends a b bytes → rest ≡ [] → Passed bytes a rest b
+all_passed bytes rest a b wrote none = record { written = bytes; whole = sym (append-nil bytes) ∙ ap (λ z. bytes ++ z) (sym none); wrote = wrote }
+
 module _ {S : Type 0} (does : S → Ask → Result Answer LockRefusal → S → Type 0) where
   pub lists_none : (s : S) (r : Reader) (before : List ℕ) (a : Option (List ℕ)) → Lists does s r before a s r before a
   lists_none s r before a = record { done = []; replies = []; lines = refl; counted = sym (add-zero r.number); obeyed = (refl, refl); passed = passed_none before a }

@@ -42,9 +42,10 @@ fn list_lines<V: Serve, S: Sink>(
             Ok(Reply::Answered(answer)) => answer,
             Err(why) => Answer::Refused(why.number()),
         };
-        if out.hold_answer(number, answer).is_err() {
-            out.put_answer(number, answer)?;
+        if out.is_full() {
+            out.flush()?;
         }
+        out.hold_answer(number, answer).unwrap();
     }
     Ok(())
 }
