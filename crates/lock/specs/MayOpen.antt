@@ -18,5 +18,5 @@ pub record MayOpen {M Q : Type 0} (mem : MemoryGhosts M) (que : QueueGhosts Q) (
   pub empty : que.waiting l.queue ≡ []
 
 -- what holds of the limit and the roles once the questions before opening are asked, so that task 1 can write the cells
-abbrev pub RoomToOpen : ℕ → List ℕ → Type 0
-RoomToOpen limit roles = (1 ≤ length roles) × (length roles ≤ 64) × (2 ≤ limit)
+abbrev pub HasRoom : ℕ → List ℕ → Type 0
+HasRoom limit roles = (1 ≤ length roles) × (length roles ≤ 64) × (2 ≤ limit)
