@@ -26,19 +26,9 @@ passed_none bytes a = record { written = []; whole = append-nil bytes; wrote = a
 pub none_passed : (bytes : List ℕ) (a : Option (List ℕ)) → Passed bytes a bytes a
 none_passed bytes a = record { written = []; whole = refl; wrote = appends_none a }
 
--- all is written
-pub all_passed : (bytes rest : List ℕ) (a b : Option (List ℕ)) → Appends a b bytes → rest ≡ [] → Passed bytes a rest b
-all_passed bytes rest a b wrote none = record { written = bytes; whole = sym (append-nil bytes) ∙ ap (λ z. bytes ++ z) (sym none); wrote = wrote }
-
 module _ {S : Type 0} (does : S → Ask → Result Answer LockRefusal → S → Type 0) where
   pub lists_none : (s : S) (r : Reader) (before : List ℕ) (a : Option (List ℕ)) → Lists does s r before a s r before a
   lists_none s r before a = record { done = []; replies = []; lines = refl; counted = sym (add-zero r.number); obeyed = (refl, refl); passed = passed_none before a }
-
-  -- of what stood before the lines a part is written first
-  pub lists_written : (s t : S) (r q : Reader) (before mid rest : List ℕ) (a b c : Option (List ℕ)) → Passed before a mid b → Lists does s r mid b t q rest c → Lists does s r before a t q rest c
-  lists_written s t r q before mid rest a b c passed h =
-      let tail = numbered r.number h.replies in
-      record { done = h.done; replies = h.replies; lines = h.lines; counted = h.counted; obeyed = h.obeyed; passed = passed_more (before ++ tail) (mid ++ tail) rest a b c (passed_before before tail mid a b passed) h.passed }
 
   -- the line n is done, of which and of the bytes before it a part is written, and then others
   pub lists_more : (s m t : S) (r q u : Reader) (before mid rest : List ℕ) (a b c : Option (List ℕ)) (l : List ℕ) (h : Heard) (n : ℕ) →

@@ -27,9 +27,6 @@ fn list_lines<V: Serve, S: Sink>(
     ensures input { reader.new.input.now ≡ reader.old.input.now }
 {
     while !server.is_done() {
-        if out.is_full() {
-            out.flush()?;
-        }
         let Some(text) = reader.next_line() else {
             return Ok(());
         };
@@ -37,7 +34,11 @@ fn list_lines<V: Serve, S: Sink>(
         match reply_of(server, text) {
             Reply::Nothing => (),
             Reply::Note(note) => out.put_note(number, note)?,
-            Reply::Answered(answer) => out.hold_answer(number, answer).unwrap(),
+            Reply::Answered(answer) => {
+                if out.hold_answer(number, answer).is_err() {
+                    out.put_answer(number, answer)?;
+                }
+            }
         }
     }
     Ok(())

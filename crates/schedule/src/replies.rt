@@ -24,11 +24,12 @@ fn obey<'s, V: Serve>(server: &mut V, text: &'s [u8]) -> Result<Reply<'s>, Refus
     ensures obeys { Obeyed V.serves server.old (parse text.now) (heard_so result) server.new }
     ensures within { IfOk result (λ r. IsWithin (length text.now) (heard r)) }
 {
-    match parse_line(text)? {
-        Line::Blank => Ok(Reply::Nothing),
-        Line::Note(note) => Ok(Reply::Note(note)),
-        Line::Call(call) => Ok(Reply::Answered(server.answer(call)?)),
-    }
+    let call = match parse_line(text)? {
+        Line::Blank => return Ok(Reply::Nothing),
+        Line::Note(note) => return Ok(Reply::Note(note)),
+        Line::Call(call) => call,
+    };
+    Ok(Reply::Answered(server.answer(call)?))
 }
 
 // The same, where a refusal is one more answer: a listing tells it by its number.
