@@ -46,6 +46,7 @@ impl<S> Output<S> {
     }
 
     /// The same for a note. Refused: 39, where it is full, or has no room for so long a note.
+    #[inline(always)]
     pub fn hold_note(&mut self, number: u32, text: &[u8]) -> Result<(), Refusal>
         ensures holds { Holds (noted number text.now) self.old result self.new }
         ensures fits { full self.old ≡ false → self.old.count + length (noted number text.now) ≤ 4096 → IsOk result }
