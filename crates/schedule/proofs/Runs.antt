@@ -48,8 +48,8 @@ module _ {S : Type 0} (does : S → Ask → Result Answer LockRefusal → S → 
         counted = more.counted ∙ ap (λ k. k + length more.done) on ∙ one_on r.number (length more.done);
         obeyed = (reply, more.replies, refl, m, obeyed, more.obeyed);
         passed =
-          passed_from _ _ rest a c (append_assoc before line tail ∙ ap (λ z. before ++ z) bytes)
-          (passed_more ((before ++ line) ++ tail) (mid ++ tail) rest a b c (passed_before (before ++ line) tail mid a b passed) more.passed);
+            passed_from _ _ rest a c (append_assoc before line tail ∙ ap (λ z. before ++ z) bytes)
+            (passed_more ((before ++ line) ++ tail) (mid ++ tail) rest a b c (passed_before (before ++ line) tail mid a b passed) more.passed);
       }
     where
       one_on : (n k : ℕ) → n + 1 + k ≡ n + suc k
@@ -111,8 +111,8 @@ on_more p q u before mid rest a b c h k =
       lines = h.lines ∙ ap (λ z. h.done ++ z) left ∙ sym (append_assoc h.done k.done k.left);
       progress = k.progress ∙ ap (after k.done k.left) h.progress ∙ (λ i. record { untold = p.untold; number = counted p.number h.done k.done i; left = k.left; board = sym (after_parts p.board h.done k.done) i });
       passed =
-        passed_from _ _ rest a c (append_assoc before first then ∙ ap (λ z. before ++ (first ++ z)) later ∙ ap (λ z. before ++ z) (sym (listed_parts p.number p.board h.done k.done)))
-        (passed_more ((before ++ first) ++ then) (mid ++ then) rest a b c (passed_before (before ++ first) then mid a b h.passed) k.passed);
+          passed_from _ _ rest a c (append_assoc before first then ∙ ap (λ z. before ++ (first ++ z)) later ∙ ap (λ z. before ++ z) (sym (listed_parts p.number p.board h.done k.done)))
+          (passed_more ((before ++ first) ++ then) (mid ++ then) rest a b c (passed_before (before ++ first) then mid a b h.passed) k.passed);
     }
   where
     counted : (n : ℕ) (xs ys : List (List ℕ)) → n + length xs + length ys ≡ n + length (xs ++ ys)

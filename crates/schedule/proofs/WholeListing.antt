@@ -68,7 +68,7 @@ is_prefix cut more few =
     let rest = listed (length first) (board_after first_board first) (lines more) in (
       rest,
       short_listing (cut ++ 10 ∷ more) few ∙ ap (listed 0 first_board) (cut_lines cut more) ∙ listed_parts 0 first_board first (lines more) ∙ ap (λ k. listed 0 first_board first ++ listed k (board_after first_board first) (lines more)) (zero-add (length first))
-      ∙ ap (λ z. z ++ rest) (sym (short_listing (cut ++ 10 ∷ []) (omega (arith, length_more cut more)))),
+          ∙ ap (λ z. z ++ rest) (sym (short_listing (cut ++ 10 ∷ []) (omega (arith, length_more cut more)))),
     )
 
 note_read : (text : List ℕ) → parse (35 ∷ text) ≡ Ok (note (35 ∷ text))

@@ -85,9 +85,21 @@ impl Schedule<'_, '_, '_> {
         };
         match (pair.memory, pair.queue) {
             (MemoryKind::Words, QueueKind::Ring) => list_lines(reader, &mut locks.words_ring, out),
-            (MemoryKind::Words, QueueKind::Masks) => list_lines(reader, &mut locks.words_masks, out),
-            (MemoryKind::Packed, QueueKind::Ring) => list_lines(reader, &mut locks.packed_ring, out),
-            (MemoryKind::Packed, QueueKind::Masks) => list_lines(reader, &mut locks.packed_masks, out),
+            (MemoryKind::Words, QueueKind::Masks) => list_lines(
+                reader,
+                &mut locks.words_masks,
+                out,
+            ),
+            (MemoryKind::Packed, QueueKind::Ring) => list_lines(
+                reader,
+                &mut locks.packed_ring,
+                out,
+            ),
+            (MemoryKind::Packed, QueueKind::Masks) => list_lines(
+                reader,
+                &mut locks.packed_masks,
+                out,
+            ),
         }
     }
 

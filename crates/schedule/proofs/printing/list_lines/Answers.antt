@@ -66,10 +66,10 @@ returns-in_default-clause-input g c = ap (λ (r : Reader). r.input.now) c.in_def
 
 pub loop-reader-preserved-in-Ok-Nothing : goal.loop-reader-preserved-in-Ok-Nothing
 loop-reader-preserved-in-Ok-Nothing g c = (
-      c.in-Some.ensures.same_input ∙ c.loop-reader.invariant.0,
-      λ t q rest x h. c.loop-reader.invariant.1 t q rest x
+  c.in-Some.ensures.same_input ∙ c.loop-reader.invariant.0,
+  λ t q rest x h. c.loop-reader.invariant.1 t q rest x
       (lists_more g.V.Serve.serves c.loop-reader.server c.obey.new.server t c.loop-reader.reader c.next_line.new.self q (held c.loop-reader.out) (held c.loop-reader.out) rest _ _ x c.in-Some.text.now [] (heard_so c.obey.result) c.number-number.result c.in-Some.ensures.first c.in-Some.ensures.counted c.number-number.ensures.value c.obey.ensures.obeys (quiet c.number-number.result c.obey.result c.in-Ok-Nothing.field-0 Nothing c.in-Ok-Nothing.is c.in-Ok-Nothing.field-0-is) (passed_none (held c.loop-reader.out) _) h),
-    )
+)
 
 pub returns-in_err-put_note-in-Ok-Note-clause-lists : goal.returns-in_err-put_note-in-Ok-Note-clause-lists
 returns-in_err-put_note-in-Ok-Note-clause-lists g c =
@@ -79,22 +79,25 @@ returns-in_err-put_note-in-Ok-Note-clause-lists g c =
     let (rest, cut) = passed_full g.S.Sink.contents (noted c.number-number.result c.in-Ok-Note.note.now) c.loop-reader.out c.hold_note.new.self c.put_note.new.self c.hold_note.result (Err c.in_err-put_note-in-Ok-Note.field-0.0) c.if-is_err.ensures.value c.hold_note.ensures.holds c.in_err-put_note-in-Ok-Note.ensures.appended in
     let r = c.from_residual in
     MatchResult-from_err r.result _ _ r.ensures.0
-    (λ e. (rest, c.loop-reader.invariant.1 m n rest x
-    (lists_more g.V.Serve.serves c.loop-reader.server c.obey.new.server m c.loop-reader.reader c.next_line.new.self n (held c.loop-reader.out) rest rest _ _ x c.in-Some.text.now (noted c.number-number.result c.in-Ok-Note.note.now) (heard_so c.obey.result) c.number-number.result c.in-Some.ensures.first c.in-Some.ensures.counted c.number-number.ensures.value c.obey.ensures.obeys (quiet c.number-number.result c.obey.result c.in-Ok-Note.field-0 (Note c.in-Ok-Note.note) c.in-Ok-Note.is c.in-Ok-Note.field-0-is) cut (lists_none g.V.Serve.serves m n rest x))))
+    (λ e. (
+      rest,
+      c.loop-reader.invariant.1 m n rest x
+          (lists_more g.V.Serve.serves c.loop-reader.server c.obey.new.server m c.loop-reader.reader c.next_line.new.self n (held c.loop-reader.out) rest rest _ _ x c.in-Some.text.now (noted c.number-number.result c.in-Ok-Note.note.now) (heard_so c.obey.result) c.number-number.result c.in-Some.ensures.first c.in-Some.ensures.counted c.number-number.ensures.value c.obey.ensures.obeys (quiet c.number-number.result c.obey.result c.in-Ok-Note.field-0 (Note c.in-Ok-Note.note) c.in-Ok-Note.is c.in-Ok-Note.field-0-is) cut (lists_none g.V.Serve.serves m n rest x)),
+    ))
 
 pub loop-reader-preserved-in_ok-put_note-in-Ok-Note : goal.loop-reader-preserved-in_ok-put_note-in-Ok-Note
 loop-reader-preserved-in_ok-put_note-in-Ok-Note g c = (
-      c.in-Some.ensures.same_input ∙ c.loop-reader.invariant.0,
-      λ t q rest x h. c.loop-reader.invariant.1 t q rest x
+  c.in-Some.ensures.same_input ∙ c.loop-reader.invariant.0,
+  λ t q rest x h. c.loop-reader.invariant.1 t q rest x
       (lists_more g.V.Serve.serves c.loop-reader.server c.obey.new.server t c.loop-reader.reader c.next_line.new.self q (held c.loop-reader.out) (held c.put_note.new.self) rest _ _ x c.in-Some.text.now (noted c.number-number.result c.in-Ok-Note.note.now) (heard_so c.obey.result) c.number-number.result c.in-Some.ensures.first c.in-Some.ensures.counted c.number-number.ensures.value c.obey.ensures.obeys (quiet c.number-number.result c.obey.result c.in-Ok-Note.field-0 (Note c.in-Ok-Note.note) c.in-Ok-Note.is c.in-Ok-Note.field-0-is) (passed_full {E = g.row.S-Error.Denot} g.S.Sink.contents (noted c.number-number.result c.in-Ok-Note.note.now) c.loop-reader.out c.hold_note.new.self c.put_note.new.self c.hold_note.result (Ok tt) c.if-is_err.ensures.value c.hold_note.ensures.holds c.in_ok-put_note-in-Ok-Note.ensures.appended) h),
-    )
+)
 
 pub loop-reader-preserved-else-is_err : goal.loop-reader-preserved-else-is_err
 loop-reader-preserved-else-is_err g c = (
-      c.in-Some.ensures.same_input ∙ c.loop-reader.invariant.0,
-      λ t q rest x h. c.loop-reader.invariant.1 t q rest x
+  c.in-Some.ensures.same_input ∙ c.loop-reader.invariant.0,
+  λ t q rest x h. c.loop-reader.invariant.1 t q rest x
       (lists_more g.V.Serve.serves c.loop-reader.server c.obey.new.server t c.loop-reader.reader c.next_line.new.self q (held c.loop-reader.out) (held c.hold_note.new.self) rest _ _ x c.in-Some.text.now (noted c.number-number.result c.in-Ok-Note.note.now) (heard_so c.obey.result) c.number-number.result c.in-Some.ensures.first c.in-Some.ensures.counted c.number-number.ensures.value c.obey.ensures.obeys (quiet c.number-number.result c.obey.result c.in-Ok-Note.field-0 (Note c.in-Ok-Note.note) c.in-Ok-Note.is c.in-Ok-Note.field-0-is) (passed_held g.S.Sink.contents (noted c.number-number.result c.in-Ok-Note.note.now) c.loop-reader.out c.hold_note.new.self c.hold_note.result c.if-is_err.ensures.value c.hold_note.ensures.holds) h),
-    )
+)
 
 pub returns-in_err-flush-clause-lists : goal.returns-in_err-flush-clause-lists
 returns-in_err-flush-clause-lists g c =
@@ -108,8 +111,11 @@ returns-in_err-flush-clause-lists g c =
     let (rest, cut) = cut_before (held c.loop-reader.out) (shown c.number-number.result c.match-obey.answer) _ x c.in_err-flush.ensures.written in
     let r = c.from_residual-in_err-flush in
     MatchResult-from_err r.result _ _ r.ensures.0
-    (λ e. (rest, c.loop-reader.invariant.1 m n rest x
-    (lists_more g.V.Serve.serves c.loop-reader.server c.obey.new.server m c.loop-reader.reader c.next_line.new.self n (held c.loop-reader.out) rest rest _ _ x c.in-Some.text.now (shown c.number-number.result c.match-obey.answer) (heard_so c.obey.result) c.number-number.result c.in-Some.ensures.first c.in-Some.ensures.counted c.number-number.ensures.value c.obey.ensures.obeys so cut (lists_none g.V.Serve.serves m n rest x))))
+    (λ e. (
+      rest,
+      c.loop-reader.invariant.1 m n rest x
+          (lists_more g.V.Serve.serves c.loop-reader.server c.obey.new.server m c.loop-reader.reader c.next_line.new.self n (held c.loop-reader.out) rest rest _ _ x c.in-Some.text.now (shown c.number-number.result c.match-obey.answer) (heard_so c.obey.result) c.number-number.result c.in-Some.ensures.first c.in-Some.ensures.counted c.number-number.ensures.value c.obey.ensures.obeys so cut (lists_none g.V.Serve.serves m n rest x)),
+    ))
 
 pub unwrap-requires : goal.unwrap-requires
 unwrap-requires g c =
@@ -137,7 +143,7 @@ loop-reader-preserved g c =
     let passed = passed_more (before ++ (shown c.number-number.result c.match-obey.answer)) (held o ++ (shown c.number-number.result c.match-obey.answer)) (held p) a _ _ (passed_before before (shown c.number-number.result c.match-obey.answer) (held o) a _ first) line in (
       c.in-Some.ensures.same_input ∙ c.loop-reader.invariant.0,
       λ t q rest x h. c.loop-reader.invariant.1 t q rest x
-      (lists_more g.V.Serve.serves c.loop-reader.server c.obey.new.server t c.loop-reader.reader c.next_line.new.self q (held c.loop-reader.out) (held p) rest _ _ x c.in-Some.text.now (shown c.number-number.result c.match-obey.answer) (heard_so c.obey.result) c.number-number.result c.in-Some.ensures.first c.in-Some.ensures.counted c.number-number.ensures.value c.obey.ensures.obeys so passed h),
+          (lists_more g.V.Serve.serves c.loop-reader.server c.obey.new.server t c.loop-reader.reader c.next_line.new.self q (held c.loop-reader.out) (held p) rest _ _ x c.in-Some.text.now (shown c.number-number.result c.match-obey.answer) (heard_so c.obey.result) c.number-number.result c.in-Some.ensures.first c.in-Some.ensures.counted c.number-number.ensures.value c.obey.ensures.obeys so passed h),
     )
 
 pub returns-clause-lists : goal.returns-clause-lists
