@@ -1,5 +1,5 @@
 -- The check of a state: six rules over cells and tasks from anywhere, in their order.
-use Rattle.std.specs.Prelude.{ℕ, Bool, cond, ◌&&◌, ◌||◌, List, length, Some, None, Option, Result, ◌==◌, nat_le, slice_index}
+use Rattle.std.specs.Prelude.{ℕ, Bool, cond, ◌&&◌, ◌||◌, List, length, Some, None, Ok, Option, Result, ◌==◌, nat_le, slice_index}
 use Rattle.std.specs.Bool.{beq}
 use Rattle.lines.specs.Lines.{C, D, Gate, X, Permit, U, V}
 use Rattle.lines.specs.Classes.{in_section, is_counted, has_upgraded, is_upgrading, is_writing_normally, may_write}
@@ -50,6 +50,10 @@ broken_rule cells tasks =
     unless (keeps_upgrade tasks) Upgrade (
     unless (keeps_u cells tasks) CellU (
     unless (keeps_x cells tasks) CellX None)))))
+
+-- the answer where no rule is broken
+abbrev pub passed : Result (Option Rule) Refusal
+passed = Ok None
 
 -- are there 1 to 64 tasks?
 abbrev pub state_refusal : List Record → Option Refusal

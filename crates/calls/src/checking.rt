@@ -1,6 +1,6 @@
 // The check of a state: the first of six rules that cells and tasks from anywhere break.
-ghost use Rattle.std.specs.Prelude.{◌≡◌, ◌≤◌, length, None as no_rule, Ok as passes};
-ghost use Rattle.calls.specs.Checks.{broken_rule, keeps_ranges, state_checked};
+ghost use Rattle.std.specs.Prelude.{◌≡◌, ◌≤◌, length};
+ghost use Rattle.calls.specs.Checks.{broken_rule, keeps_ranges, passed, state_checked};
 ghost use Rattle.calls.specs.SoundState.{SoundState};
 
 use crate::census::Census;
@@ -12,8 +12,8 @@ use memory::cells::{C, D, GATE, PERMIT, U, V, X};
 // The first rule that the cells and the records of 1 to 64 tasks break, if any.
 pub fn check_state(cells: &[u32; 7], tasks: &[Record]) -> Result<Option<Rule>, Refusal>
     ensures value { result ≡ state_checked cells.now tasks.now }
-    ensures sound { result ≡ passes no_rule → SoundState cells.now tasks.now }
-    ensures complete { 1 ≤ length tasks.now → length tasks.now ≤ 64 → SoundState cells.now tasks.now → result ≡ passes no_rule }
+    ensures sound { result ≡ passed → SoundState cells.now tasks.now }
+    ensures complete { 1 ≤ length tasks.now → length tasks.now ≤ 64 → SoundState cells.now tasks.now → result ≡ passed }
 {
     if tasks.is_empty() || tasks.len() > 64 {
         return Err(Refusal::Roles);

@@ -1,8 +1,8 @@
 -- The bytes of a line behind those that are held, and what of them is written.
-use Rattle.std.proofs.Common.{◌≡◌, ℕ, ◌+◌, ◌≤◌, List, [], ◌∷◌, ◌++◌, length, take, drop, set, Some, None, Ok, Err, Option, Result, sym, refl, ap, ◌∙◌, subst, arith, length-append, length-take-le}
+use Rattle.std.proofs.Common.{◌≡◌, ℕ, ◌+◌, ◌≤◌, List, [], ◌∷◌, ◌++◌, length, take, drop, set, Ok, Err, Option, Result, sym, refl, ap, ◌∙◌, subst, arith, length-append, length-take-le}
 use Rattle.std.proofs.lemmas.List.{append-nil, append_assoc, take_at}
 use Rattle.std.specs.Prelude.{MatchResult}
-use Rattle.std.specs.Io.KnownBytes.{Appends, append_known}
+use Rattle.std.specs.Io.KnownBytes.{Appends}
 use Rattle.streams.specs.Streams.{Cut, Passed}
 use Rattle.streams.proofs.Passed.{appends_more, cut_before, cut_behind, passed_before, passed_from, passed_more}
 use Rattle.listing.specs.declared.refusal.Refusal.{Refusal}
@@ -54,10 +54,6 @@ pub first_byte : (bytes : List ℕ) (x : ℕ) → 1 ≤ length bytes → take 1 
 first_byte [] x some = absurd (omega (arith, some))
 first_byte (y ∷ bytes) x some = refl
 
--- what is put behind the first `filled` leaves them
-pub held_kept : (buffer o behind : List ℕ) (filled count : ℕ) → filled ≤ length buffer → filled ≡ count → take count (take filled buffer ++ (o ++ behind)) ≡ take count buffer
-held_kept buffer o behind filled count fits is = subst (λ n. take n (take filled buffer ++ (o ++ behind)) ≡ take n buffer) is (take_at (take filled buffer) (o ++ behind) filled (length-take-le filled buffer fits))
-
 -- a line comes behind what is held then
 pub passed_line : (before after line rest : List ℕ) (a b : Option (List ℕ)) → Passed (before ++ []) a after b → rest ≡ after ++ line → Passed (before ++ line) a rest b
 passed_line before after line rest a b passed is =
@@ -71,12 +67,3 @@ cut_line before line a b cut = cut_before before line a b (subst (λ z. Cut z a 
 pub passed_then : {T E : Type 0} (before after kept line rest : List ℕ) (a b c : Option (List ℕ)) (r : Result T E) → Passed (before ++ []) a after b → kept ≡ after → MatchResult r (λ _. Passed (kept ++ line) b rest c) (λ _. Cut (kept ++ line) b c) → MatchResult r (λ _. Passed (before ++ line) a rest c) (λ _. Cut (before ++ line) a c)
 passed_then before after kept line rest a b c (Ok x) passed is more = passed_more (before ++ line) (kept ++ line) rest a b c (passed_line before after line (kept ++ line) a b passed (ap (λ z. z ++ line) is)) more
 passed_then before after kept line rest a b c (Err e) passed is cut = cut_behind (before ++ line) (kept ++ line) a b c (passed_line before after line (kept ++ line) a b passed (ap (λ z. z ++ line) is)) cut
-
-known_text : (a c : Option (List ℕ)) (before bytes written after : List ℕ) → before ++ bytes ≡ written ++ after → Appends a c written → Appends (append_known a before) (append_known c after) bytes
-known_text None c before bytes written after whole h = tt
-known_text (Some xs) None before bytes written after whole h = absurd h
-known_text (Some xs) (Some ys) before bytes written after whole h = ap (λ z. z ++ after) h ∙ append_assoc xs written after ∙ ap (λ z. xs ++ z) (sym whole) ∙ sym (append_assoc xs before bytes)
-
--- what an output means grows by the bytes
-pub passed_text : (before bytes rest : List ℕ) (a c : Option (List ℕ)) → Passed (before ++ bytes) a rest c → Appends (append_known a before) (append_known c rest) bytes
-passed_text before bytes rest a c h = known_text a c before bytes h.written rest h.whole h.wrote

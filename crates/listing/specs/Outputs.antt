@@ -1,19 +1,21 @@
 -- What an output means: the bytes that its sink has taken, and behind them those that it holds.
-use Rattle.std.specs.Prelude.{◌≡◌, ℕ, ◌<◌, ◌≤◌, List, ◌++◌, take, Ok, Err, MatchResult, OnOk, Option, Result}
+use Rattle.std.specs.Prelude.{◌≡◌, ℕ, Bool, List, ◌++◌, take, MatchResult, OnOk, Option, Result, nat_lt}
 use Rattle.std.specs.Io.KnownBytes.{Appends, append_known}
 use Rattle.streams.specs.Streams.{Cut, Passed}
 use Rattle.listing.specs.declared.output.Output.{Output}
 use Rattle.listing.specs.declared.refusal.Refusal.{Refusal}
-use Rattle.listing.specs.declared.refusal.Refusal.TheVariants.{Room}
 
 -- the bytes that are yet to be written
 abbrev pub held : {S : Type 0} → Output S → List ℕ
 held o = take o.count o.bytes
 
--- the bytes are held too, or the buffer is full, and all is as it was
+-- too full for the next line, which may have 64 bytes
+abbrev pub full : {S : Type 0} → Output S → Bool
+full o = nat_lt 4032 o.count
+
+-- the bytes are held behind the others; where that is refused, nothing more is held than before
 abbrev pub Holds : {S : Type 0} → List ℕ → Output S → Result (Unit {0}) Refusal → Output S → Type 0
-Holds bytes o (Ok _) p = (o.count ≤ 4032) × (p.sink ≡ o.sink) × (held p ≡ held o ++ bytes)
-Holds bytes o (Err e) p = (4032 < o.count) × (e ≡ Room) × (p ≡ o)
+Holds bytes o r p = (p.sink ≡ o.sink) × MatchResult r (λ _. held p ≡ held o ++ bytes) (λ _. (held p ≡ held o) × (p.count ≡ o.count))
 
 module _ {S : Type 0} (contents : S → Option (List ℕ)) where
   -- the bytes that are written, and those that are held

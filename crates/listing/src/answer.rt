@@ -2,6 +2,7 @@
 // A number of 32 bits has at most ten digits, so no text has more than 35 bytes.
 ghost use Rattle.std.specs.Prelude.{◌+◌, ◌≤◌, ◌++◌, decimal, length};
 ghost use Rattle.listing.specs.Answers.{ok, place as placed, space, thickness, told};
+ghost use Rattle.listing.specs.declared.answer.Answer.TheVariants as answers;
 ghost use Rattle.listing.specs.Written.{Takes};
 
 use crate::digits::{put_byte, put_number, put_rare, put_text};
@@ -25,12 +26,13 @@ impl Place {
         ensures written { Takes at out.old (placed self) result out.new }
         ensures short { length (placed self) ≤ 10 }
     {
-        match self {
-            Place::Rest => put_byte(out, at, b'-'),
-            Place::Reading => put_byte(out, at, b'r'),
-            Place::Writing => put_byte(out, at, b'w'),
-            Place::At(line) => put_number(out, at, line),
-        }
+        let letter = match self {
+            Place::Rest => b'-',
+            Place::Reading => b'r',
+            Place::Writing => b'w',
+            Place::At(line) => return put_number(out, at, line),
+        };
+        put_byte(out, at, letter)
     }
 }
 
@@ -64,8 +66,8 @@ fn put_moved(out: &mut [u8], at: usize, place: Place, cost: u32) -> usize
 #[cold]
 fn put_row(out: &mut [u8], at: usize, place: Place, cost: u32, row: Option<u32>) -> usize
     requires { at + 36 ≤ length out.old }
-    ensures written { Takes at out.old (space ++ (ok ++ placed place ++ space ++ decimal cost ++ space ++ thickness row)) result out.new }
-    ensures short { length (ok ++ placed place ++ space ++ decimal cost ++ space ++ thickness row) ≤ 35 }
+    ensures written { Takes at out.old (space ++ told (answers.Row place cost row)) result out.new }
+    ensures short { length (told (answers.Row place cost row)) ≤ 35 }
 {
     let at = put_moved(out, at, place, cost);
     let at = put_byte(out, at, b' ');

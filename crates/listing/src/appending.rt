@@ -1,80 +1,40 @@
-// Appending lines to an output, and writing what it holds.
-ghost use Rattle.std.specs.Prelude.{◌≡◌, ◌≤◌, [], IfOk, OnErr, nat_lt};
+// Appending lines to an output, and writing what it holds. (A result with a sink's error is large. Where one is made for a
+// line it costs as much as a third of writing the line, so a loop may hold lines, and flush once it is full.)
+ghost use Rattle.std.specs.Prelude.{◌≡◌, ◌≤◌, [], false, OnErr, OnOk};
 ghost use Rattle.streams.specs.Streams.{Writes};
 ghost use Rattle.listing.specs.Listing.{noted, shown};
-ghost use Rattle.listing.specs.Outputs.{Appended, Grows, Holds, held};
+ghost use Rattle.listing.specs.Outputs.{Appended, Grows, full, held};
 
 use crate::answer::Answer;
-use crate::output::{Output, SIZE};
-use crate::refusal::Refusal;
-use crate::write;
-use crate::write::{put_heading, put_line};
+use crate::output::Output;
+use crate::write::put_heading;
 use streams::sink::Sink;
 use streams::writing::write_all;
 
-// Once more bytes than these are held they are written before the next line, so that there is room for 64 more: for any
-// line but a long note.
-const FULL: usize = 4032;
-
 impl<S: Sink> Output<S> {
-    /// To this sink. No byte is held.
-    pub fn new(sink: S) -> Output<S>
-        ensures sink { result.sink ≡ sink }
-        ensures empty { held result ≡ [] }
-    {
-        Output {
-            sink,
-            bytes: [0; SIZE],
-            count: 0,
-        }
-    }
-
     /// Writes all that is held. No byte is held then, whatever comes of it. The error is the sink's.
     #[cold]
     pub fn flush(&mut self) -> Result<(), S::Error>
         ensures written { Writes (held self.old) (S.contents self.old.sink) (S.contents self.new.sink) result }
         ensures empty { held self.new ≡ [] }
-        ensures none { self.new.count ≡ 0 }
+        ensures room { full self.new ≡ false }
     {
         let count = self.count;
         self.count = 0;
         write_all(&mut self.sink, &self.bytes[..count])
     }
 
-    /// Whether there may be too little room for the next line, unless what is held is written first.
+    // Writes what is held where it is full.
     #[inline(always)]
-    pub fn is_full(&self) -> bool
-        ensures { result ≡ nat_lt 4032 self.now.count }
-    {
-        FULL < self.count
-    }
-
-    /// Appends the line `number` of the listing, for a call that gave `answer`, to what is held. Refused: 39, where it is full,
-    /// and then all is as it was. (As `put_answer`, for a loop that asks and flushes itself: an error of a sink may be large.)
-    #[inline(always)]
-    pub fn hold_answer(&mut self, number: u32, answer: Answer) -> Result<(), Refusal>
-        ensures { Holds (shown number answer) self.old result self.new }
-    {
-        if self.count > FULL {
-            return Err(Refusal::Room);
-        }
-        self.count += put_line(&mut self.bytes[self.count..], number, answer);
-        Ok(())
-    }
-
-    // Where the next line begins, for which there is room unless it is a long note: behind what is held, which is written
-    // first where it fills the buffer.
-    #[inline(always)]
-    fn next_place(&mut self) -> Result<usize, S::Error>
-        ensures place { IfOk result (λ at. (at ≡ self.new.count) × (at ≤ 4032)) }
+    fn make_room(&mut self) -> Result<(), S::Error>
         ensures appended { Appended S.contents [] self.old result self.new }
         ensures lost { OnErr result (held self.new ≡ []) }
+        ensures room { OnOk result (full self.new ≡ false) }
     {
-        if self.count > FULL {
-            self.flush()?;
-            return Ok(0);
+        if self.is_full() {
+            return self.flush();
         }
-        Ok(self.count)
+        Ok(())
     }
 
     // Writes what is held, what the line of the note begins with, and the note. The end of its line is held.
@@ -98,32 +58,21 @@ impl<S: Sink> Output<S> {
         ensures text { Grows S.contents (noted number text.now) self.old result self.new }
         ensures lost { OnErr result (held self.new ≡ []) }
     {
-        let at = self.next_place()?;
-        match write::put_note(&mut self.bytes[at..], number, text) {
-            Ok(count) => {
-                self.count = at + count;
-                Ok(())
-            }
+        self.make_room()?;
+        match self.hold_note(number, text) {
+            Ok(()) => Ok(()),
             Err(_) => self.write_note(number, text),
         }
     }
 
     /// Appends the line `number` of the listing, for a call that gave `answer`. The error is the sink's.
-    #[inline(always)]
     pub fn put_answer(&mut self, number: u32, answer: Answer) -> Result<(), S::Error>
         ensures appended { Appended S.contents (shown number answer) self.old result self.new }
         ensures text { Grows S.contents (shown number answer) self.old result self.new }
         ensures lost { OnErr result (held self.new ≡ []) }
     {
-        let at = self.next_place()?;
-        self.count = at + put_line(&mut self.bytes[at..], number, answer);
+        self.make_room()?;
+        self.hold_answer(number, answer).unwrap();
         Ok(())
-    }
-
-    /// What it writes to. What is held is lost.
-    pub fn into_sink(self) -> S
-        ensures { result ≡ self.sink }
-    {
-        self.sink
     }
 }

@@ -5,6 +5,7 @@
 pub mod answer;
 mod appending;
 mod digits;
+mod holding;
 pub mod output;
 pub mod refusal;
 #[cfg(test)]

@@ -161,3 +161,22 @@ fn a_sink_that_is_full_is_told(rt: HostRuntime) -> Result<(), Fail> {
     assert_eq!(rt; &held[..], b"1 ok 2\n2 ".as_slice());
     Ok(())
 }
+
+#[test]
+fn an_output_that_is_full_refuses_a_line_until_it_is_flushed(rt: HostRuntime) -> Result<(), Fail> {
+    let mut held = [b'.'; 4100];
+    let mut out = Output::new(&mut held[..]);
+    for _ in 0..577 {
+        assert!(rt; !out.is_full());
+        assert_eq!(rt; out.hold_answer(7, Answer::Opened(1)), Ok(()));
+    }
+    assert!(rt; out.is_full());
+    assert_eq!(rt; out.hold_answer(7, Answer::Opened(1)), Err(Refusal::Room));
+    assert_eq!(rt; out.hold_note(7, b"#"), Err(Refusal::Room));
+    out.flush()?;
+    assert_eq!(rt; out.hold_note(8, &[b'#'; 4096]), Err(Refusal::Room));
+    assert_eq!(rt; out.hold_note(8, b"#"), Ok(()));
+    out.flush()?;
+    assert_eq!(rt; &held[4025..4045], b"7 ok 1\n7 ok 1\n8 #\n..".as_slice());
+    Ok(())
+}

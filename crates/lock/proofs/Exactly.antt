@@ -1,21 +1,19 @@
 -- Over the cache layer, where each operation below costs 1, calls come to what the one function says, from every state.
-use Rattle.std.proofs.Common.{◌≡◌, ℕ, List, length, Some, None, Option, Result, refl, ap, subst, ◌∙◌}
+use Rattle.std.proofs.Common.{◌≡◌, ℕ, List, Some, None, Option, Result, refl, ap, subst, ◌∙◌}
 use Rattle.cache.specs.declared.layer.Cache.{Cache}
 use Rattle.cache.specs.Layers.{cached}
 use Rattle.memory.specs.declared.interface.Memory.{Ghosts as MemoryGhosts}
-use Rattle.memory.specs.declared.operation.Operation.{Operation}
-use Rattle.memory.specs.Cells.{zeros}
 use Rattle.queue.specs.declared.interface.Queue.{Ghosts as QueueGhosts}
 use Rattle.lines.specs.declared.deed.Deed.{Deed}
 use Rattle.lines.specs.Lines.{next_deed}
 use Rattle.calls.specs.declared.record.Record.{Record}
 use Rattle.calls.specs.declared.refusal.Refusal.{Refusal}
-use Rattle.calls.specs.Opening.{Opens, open_refusal, opened_to}
+use Rattle.calls.specs.Opening.{Opens, open_refusal}
 use Rattle.calls.specs.States.{State}
 use Rattle.calls.specs.Steps.{Answer, Call, Carried, LineShares, Verdict, at_once, carry_out, deed_refusal, judge, line, lined, refuse}
 use Rattle.lock.specs.declared.locks.Lock.{Lock}
 use Rattle.lock.specs.ByTask.{Follows, Plan, ends, makes}
-use Rattle.lock.specs.Counted.{CostsOne, Counted, masks_after, unit_share}
+use Rattle.lock.specs.Counted.{CostsOne, Counted, unit_share}
 use Rattle.lock.specs.Exact.{exact, exact_opening, followed, line_masks, opens_exactly, seen, verdict_masks, verdict_share}
 use Rattle.lock.specs.View.{Does, Opened, view}
 use Rattle.lock.proofs.Copies.{ExactUnits, cached_exact, deed_exact, opened_masks}

@@ -1,4 +1,4 @@
--- After any run from an opened lock the facts hold: exclusion, obedience and soundness.
+-- After any run from an opened lock the facts hold: exclusion, that a call is obeyed or meets a question of its own, and soundness.
 use Rattle.std.proofs.Common.{◌≡◌, ℕ, ◌-◌, ◌≤◌, Bool, true, false, cond, ◌≢◌, List, [], ◌∷◌, length, Some, None, Option, sym, ◌∙◌, refl, ap, subst, arith}
 use Rattle.std.proofs.lemmas.Bool.{false≢true}
 use Rattle.memory.specs.Calls.{Doing}

@@ -1,4 +1,4 @@
--- Cases in which each answer and each refusal of the lock occurs.
+-- Runs in which each answer of the lock occurs, and each refusal but those of opening, which are values of `open_refusal`.
 use Rattle.std.specs.Prelude.{◌≡◌, ℕ, true, false, List, [], ◌∷◌, ◌++◌, Some, None}
 use Rattle.memory.specs.declared.interface.Memory.{Ghosts}
 use Rattle.memory.specs.Cells.{zeros}

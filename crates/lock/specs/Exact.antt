@@ -1,5 +1,5 @@
 -- What calls come to over the cache layer, where each operation of the memory below costs 1: one function, for every state.
-use Rattle.std.specs.Prelude.{◌≡◌, ℕ, List, Some, None, Ok, Err, Option, Result}
+use Rattle.std.specs.Prelude.{ℕ, List, Some, None, Ok, Err, Option, Result}
 use Rattle.cache.specs.declared.layer.Cache.{Cache}
 use Rattle.cache.specs.Layers.{cached}
 use Rattle.memory.specs.declared.interface.Memory.{Ghosts as MemoryGhosts}
@@ -7,7 +7,6 @@ use Rattle.memory.specs.Cells.{zeros}
 use Rattle.queue.specs.declared.interface.Queue.{Ghosts as QueueGhosts}
 use Rattle.lines.specs.declared.deed.Deed.{Deed}
 use Rattle.lines.specs.Lines.{next_deed}
-use Rattle.calls.specs.declared.record.Record.{Record}
 use Rattle.calls.specs.declared.refusal.Refusal.{Refusal}
 use Rattle.calls.specs.Opening.{open_refusal, opened_to}
 use Rattle.calls.specs.Steps.{Answer, Call, Verdict, at_once, carry_out, deed_refusal, judge, line, refuse}

@@ -16,3 +16,7 @@ pub record MayOpen {M Q : Type 0} (mem : MemoryGhosts M) (que : QueueGhosts Q) (
   pub fits : length roles ≤ mem.limit
   pub ceiling : mem.top l.memory ≤ 1000
   pub empty : que.waiting l.queue ≡ []
+
+-- what holds of the limit and the roles once the questions before opening are asked, so that task 1 can write the cells
+abbrev pub HasRoom : ℕ → List ℕ → Type 0
+HasRoom limit roles = (1 ≤ length roles) × (length roles ≤ 64) × (2 ≤ limit)

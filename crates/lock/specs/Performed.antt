@@ -8,7 +8,9 @@ use Rattle.lines.specs.declared.deed.Deed.{Deed}
 use Rattle.lines.specs.Deeds.{finds, operation_finds, cells_after, waiting_after}
 use Rattle.calls.specs.declared.refusal.Refusal.{Refusal}
 use Rattle.calls.specs.Steps.{by_memory, deed_refusal, Shares}
+use Rattle.lines.specs.Lines.{next_deed}
 use Rattle.lock.specs.declared.deeds.Told.{Told}
+use Rattle.lock.specs.declared.task.Task.{Task}
 
 -- an operation takes the memory from m to n
 abbrev pub Touched : {M : Type 0} → MemoryGhosts M → M → ℕ → Operation → Result Told Refusal → M → Type 0
@@ -29,3 +31,7 @@ Performed mem que m p t d (Ok told) n q =
     × (que.waiting q ≡ waiting_after d t (que.waiting p))
 Performed mem que m p t d (Err e) n q =
     (deed_refusal mem.limit t d (mem.cells m) (que.waiting p) ≡ Some e) × (n ≡ m) × (que.waiting q ≡ que.waiting p)
+
+-- the next deed of the task k does
+abbrev pub PerformedNext : {M Q : Type 0} → MemoryGhosts M → QueueGhosts Q → M → Q → Task → Result Told Refusal → M → Q → Type 0
+PerformedNext mem que m p k r n q = Performed mem que m p k.number (next_deed k.number k.state.track) r n q

@@ -1,8 +1,18 @@
--- What a run leaves in a row of the table, and what a read answers by it.
+-- The calls on a row of the table, what a run leaves in one, and what a read answers by it.
 use Rattle.std.specs.Prelude.{◌≡◌, ℕ, ◌<◌, ◌≤◌, cond, ◌&&◌, List, [], ◌∷◌, Some, None, ◌==◌, ◌↔◌}
+use Rattle.lines.specs.declared.place.Right.{Right}
 use Rattle.calls.specs.Steps.{Answer, Call, advance, begin, done, downgrade, gives, hands, lay_back, leave, no, put, read, take, upgrade}
+use Rattle.lock.specs.declared.pass.Pass.{Pass}
 use Rattle.lock.specs.Needs.{IsRefused}
 use Rattle.lock.specs.Runs.{Made, was_obeyed}
+
+-- the calls on a row by those who show a pass: for the right w, or for writing
+
+abbrev pub read_showing : {R : Type 0} → Right → Pass R → ℕ → Call
+read_showing w p row = read w p.lock p.task row
+
+abbrev pub put_showing : {R : Type 0} → Pass R → ℕ → ℕ → Call
+put_showing p row thickness = put p.lock p.task row thickness
 
 -- a call leaves in a row what stood there, but for an obeyed put into it
 abbrev pub left_in : ℕ → Call → Answer → ℕ → ℕ

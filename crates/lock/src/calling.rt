@@ -1,12 +1,10 @@
 // The calls that move a task by one line.
 ghost use Rattle.std.specs.Prelude.{◌≡◌, ◌≤◌, length};
-ghost use Rattle.calls.specs.Questions.{task_refusal};
-ghost use Rattle.calls.specs.Steps.{advance, begin, line};
-ghost use Rattle.lines.specs.Lines.{next_deed};
+ghost use Rattle.calls.specs.Steps.{advance, begin};
 ghost use Rattle.lock.specs.Answers.{said};
-ghost use Rattle.lock.specs.Performed.{Performed};
-ghost use Rattle.lock.specs.Tasks.{Given};
-ghost use Rattle.lock.specs.View.{CarriesOut, Does, record_at, records_of, view};
+ghost use Rattle.lock.specs.Performed.{PerformedNext};
+ghost use Rattle.lock.specs.Tasks.{Finds, ready_line};
+ghost use Rattle.lock.specs.View.{CarriesOut, Does, record_at, records_of};
 
 use crate::deeds::{Told, perform};
 use crate::locks::Lock;
@@ -19,7 +17,7 @@ impl Task {
     // Does the one deed of the task's next line.
     #[inline(always)]
     fn do_deed<M: Memory, Q: Queue>(self, memory: &mut M, queue: &mut Q) -> Result<Told, Refusal>
-        ensures { Performed M.Memory Q.Queue memory.old queue.old self.number (next_deed self.number self.state.track) result memory.new queue.new }
+        ensures { PerformedNext M.Memory Q.Queue memory.old queue.old self result memory.new queue.new }
     {
         perform(
             memory,
@@ -34,7 +32,7 @@ impl<'a, M: Memory, Q: Queue> Lock<'a, M, Q> {
     // The task with this number. Refused: 10, 20.
     #[inline(always)]
     pub(crate) fn find(&self, number: u32) -> Result<Task, Refusal>
-        ensures { Given (task_refusal (view M.Memory Q.Queue self.now) number) number (record_at (records_of self.now.records) number) result (number ≤ length (records_of self.now.records)) }
+        ensures { Finds M.Memory Q.Queue self.now number result }
     {
         // the rare question last: a closed lock has no task
         match self.records.get(number) {
@@ -49,7 +47,7 @@ impl<'a, M: Memory, Q: Queue> Lock<'a, M, Q> {
     fn do_next(&mut self, ready: ReadyTask) -> Result<(), Refusal>
         requires among { ready.task.number ≤ length (records_of self.old.records) }
         requires in_place { record_at (records_of self.old.records) ready.task.number ≡ ready.task.state }
-        ensures { CarriesOut M.Memory Q.Queue (line ready.task.number ready.task.state) self.old (said result) self.new }
+        ensures { CarriesOut M.Memory Q.Queue (ready_line ready) self.old (said result) self.new }
     {
         let told = ready.task.do_deed(&mut self.memory, &mut self.queue)?;
         self.records.settle(ready.task.number, told);
@@ -60,7 +58,7 @@ impl<'a, M: Memory, Q: Queue> Lock<'a, M, Q> {
     #[inline(always)]
     pub(crate) fn do_line(&mut self, ready: ReadyTask) -> Result<(), Refusal>
         requires { ready.task.number ≤ length (records_of self.old.records) }
-        ensures { CarriesOut M.Memory Q.Queue (line ready.task.number ready.task.state) self.old (said result) self.new }
+        ensures { CarriesOut M.Memory Q.Queue (ready_line ready) self.old (said result) self.new }
     {
         let told = ready.task.do_deed(&mut self.memory, &mut self.queue)?;
         self.records.put(ready.task);

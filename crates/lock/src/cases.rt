@@ -12,9 +12,9 @@ use memory::interface::Memory;
 use packed::word::Packed;
 use words::array::Words;
 
-/// The worked cases: runs of lock 1 over the cache layer on Words and on Packed, with cells, places and costs at their end, and in
-/// which each answer and each refusal of the lock occurs, and what the questions tell then; and states that the check of a state is
-/// asked about. Takes nothing, refuses nothing, does nothing.
+/// The worked cases: runs of lock 1 over the cache layer on Words and on Packed, with cells, places and costs at their end, in which
+/// each answer occurs and each refusal but those of opening, 11 to 16, which are shown as what its questions tell of a state; what the
+/// other questions tell in such runs; and states that the check of a state is asked about. Takes nothing, refuses nothing, does nothing.
 pub fn cases_hold()
     ensures alone { AloneCases ⟦<Words as Memory>⟧ × AloneCases ⟦<Packed as Memory>⟧ }
     ensures waiting { WaitingCases ⟦<Words as Memory>⟧ × WaitingCases ⟦<Packed as Memory>⟧ }

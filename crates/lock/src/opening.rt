@@ -4,7 +4,7 @@ ghost use Rattle.calls.specs.Opening.{Wrote, enlisted, opening_writes, role_told
 ghost use Rattle.std.specs.List.{list_all};
 ghost use Rattle.lines.specs.Roles.{is_role};
 ghost use Rattle.lock.specs.Answers.{Asked};
-ghost use Rattle.lock.specs.MayOpen.{MayOpen};
+ghost use Rattle.lock.specs.MayOpen.{MayOpen, HasRoom};
 ghost use Rattle.lock.specs.Promises.{KeepsCostBoundByCopies, KeepsPromises};
 ghost use Rattle.lock.specs.View.{Opened, closed_over, open_refused, records_of, view};
 
@@ -102,7 +102,7 @@ impl<'a, M: Memory, Q: Queue> Lock<'a, M, Q> {
     // The questions before opening.
     #[tactic(auto, using(crate::proofs::Opened::each_role))]
     fn ask_open(&self, roles: &[u8]) -> Result<(), Refusal>
-        ensures { Asked (open_refused M.Memory Q.Queue self.now roles.now) result ((1 ≤ length roles.now) × (length roles.now ≤ 64) × (2 ≤ M.Memory.limit)) }
+        ensures { Asked (open_refused M.Memory Q.Queue self.now roles.now) result (HasRoom M.Memory.limit roles.now) }
     {
         if self.is_open() {
             return Err(Refusal::Opened);

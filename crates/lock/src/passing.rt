@@ -1,12 +1,11 @@
 // Passes handed out and laid back.
-ghost use Rattle.std.specs.Prelude.{◌≡◌, ◌≤◌, true, None, Some, length, IfErr, IfOk};
-ghost use Rattle.lines.specs.Rights.{right_of};
-ghost use Rattle.calls.specs.Questions.{out_for, pass_refusal, take_refusal};
+ghost use Rattle.std.specs.Prelude.{◌≡◌, None, IfErr, IfOk};
+ghost use Rattle.calls.specs.Questions.{take_refusal};
 ghost use Rattle.calls.specs.Records.{with_out};
 ghost use Rattle.calls.specs.Steps.{lay_back, take};
 ghost use Rattle.lock.specs.Answers.{Asked, said, spent, taken};
-ghost use Rattle.lock.specs.Tasks.{Given};
-ghost use Rattle.lock.specs.View.{Does, record_at, records_of, view};
+ghost use Rattle.lock.specs.Tasks.{FindsHolder, HandsOut};
+ghost use Rattle.lock.specs.View.{Does};
 
 use crate::locks::Lock;
 use crate::pass::{Bears, Kept, Pass};
@@ -34,7 +33,7 @@ fn may_take(has: Option<Right>, out: Option<Right>, wanted: Right) -> Result<(),
 impl Task {
     // A pass for this right goes out to the task. Refused: 24, 25, 26.
     fn hand_out(self, right: Right) -> Result<Task, Refusal>
-        ensures { Given (take_refusal (right_of self.state.track) self.state.out right) self.number (with_out self.state (Some right)) result (Unit {0}) }
+        ensures { HandsOut self right result }
     {
         may_take(self.state.track.right(), self.state.out, right)?;
         let state = Record {
@@ -67,7 +66,7 @@ impl<'a, M: Memory, Q: Queue> Lock<'a, M, Q> {
     // The task that a pass names, where such a pass is out to it. Refused: 10, 27, 28.
     #[inline(always)]
     pub(crate) fn holder<R: Bears>(&self, pass: &Pass<R>) -> Result<Task, Refusal>
-        ensures { let r = record_at (records_of self.now.records) pass.now.task in Given (pass_refusal (view M.Memory Q.Queue self.now) R.right pass.now.lock pass.now.task) pass.now.task r result ((pass.now.task ≤ length (records_of self.now.records)) × (out_for r.out R.right ≡ true)) }
+        ensures { FindsHolder M.Memory Q.Queue self.now R.right pass.now.lock pass.now.task result }
     {
         if !self.is_open() {
             return Err(Refusal::Shut);

@@ -1,9 +1,9 @@
 // The rows of the table, read and put by those who show a pass.
 ghost use Rattle.std.specs.Prelude.{◌≡◌, ◌<◌, IfNone, IfOk, IfSome, slice_index};
 ghost use Rattle.calls.specs.Questions.{row_refusal, thickness_refusal};
-ghost use Rattle.calls.specs.Steps.{put, read, row_answer};
+ghost use Rattle.calls.specs.Steps.{row_answer};
 ghost use Rattle.lock.specs.Answers.{Asked, row_told, said};
-ghost use Rattle.lock.specs.Rows.{IsMeasured};
+ghost use Rattle.lock.specs.Rows.{IsMeasured, put_showing, read_showing};
 ghost use Rattle.lock.specs.View.{Does};
 
 use crate::locks::Lock;
@@ -53,7 +53,7 @@ impl<'a, M: Memory, Q: Queue> Lock<'a, M, Q> {
     pub fn read<R: Bears>(&self, pass: &Pass<R>, row: usize) -> Result<Option<u32>, Refusal>
         ensures measured { IfOk result (λ told. IfSome told (IsMeasured (slice_index self.now.table.now row))) }
         ensures unmeasured { IfOk result (λ told. IfNone told (slice_index self.now.table.now row ≡ 0)) }
-        ensures does { Does M.Memory Q.Queue (read R.right pass.now.lock pass.now.task row) self.now (row_told result) self.now }
+        ensures does { Does M.Memory Q.Queue (read_showing R.right pass.now row) self.now (row_told result) self.now }
     {
         self.holder(pass)?;
         answer_of(*self.table.get(row).ok_or(Refusal::NoRow)?)
@@ -62,7 +62,7 @@ impl<'a, M: Memory, Q: Queue> Lock<'a, M, Q> {
     // Puts a thickness into a row, for a writing pass that is only shown. Refused: 10, 27, 28, 30, 31.
     // (By index, since of a slice that `get_mut` lent out a proof knows the length alone.)
     pub fn put(&mut self, pass: &WritePass, row: usize, thickness: u32) -> Result<(), Refusal>
-        ensures { Does M.Memory Q.Queue (put pass.now.lock pass.now.task row thickness) self.old (said result) self.new }
+        ensures { Does M.Memory Q.Queue (put_showing pass.now row thickness) self.old (said result) self.new }
     {
         self.holder::<Writing>(pass)?;
         ask_row(row, self.table.len())?;

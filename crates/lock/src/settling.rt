@@ -1,8 +1,9 @@
 // What a line that was done makes of its task's record.
-ghost use Rattle.std.specs.Prelude.{◌≡◌, ◌-◌, ◌*◌, ◌<◌, ◌≤◌, true, None, length, slice_set};
+ghost use Rattle.std.specs.Prelude.{◌≡◌, ◌*◌, ◌<◌, ◌≤◌, true, None, length};
 ghost use Rattle.calls.specs.Accounts.{closed};
 ghost use Rattle.calls.specs.Questions.{advance_refusal};
 ghost use Rattle.calls.specs.Records.{arrived, in_order, settled};
+ghost use Rattle.lock.specs.Tasks.{with_settled};
 ghost use Rattle.lock.specs.View.{record_at, records_of};
 
 use crate::deeds::Told;
@@ -51,7 +52,7 @@ impl Records {
         requires low { 1 ≤ number }
         requires high { number ≤ length (records_of self.old) }
         requires on_line { advance_refusal (record_at (records_of self.old) number) ≡ None }
-        ensures is { records_of self.new ≡ slice_set (records_of self.old) (number - 1) (settled (record_at (records_of self.old) number) told.found told.share) }
+        ensures is { records_of self.new ≡ with_settled (records_of self.old) number told }
         ensures count { length (records_of self.new) ≡ length (records_of self.old) }
     {
         settle_one(&mut self.all[number as usize - 1], told);

@@ -4,10 +4,10 @@
 // The meaning of a memory is the list of its numbers. The relation `does` tells
 // what an obeyed operation of a task leaves and its share of the cost, so that
 // code above can speak of the exact shares of one memory and of the bounds of all.
-ghost use Rattle.std.specs.Prelude.{◌≡◌, ℕ, ◌≤◌, List, length, ◌==◌, slice_index};
+ghost use Rattle.std.specs.Prelude.{◌≡◌, ℕ, ◌≤◌, List, length, slice_index};
 ghost use Rattle.memory.specs.declared.operation.Operation.{Operation as Op};
-ghost use Rattle.memory.specs.declared.operation.Operation.TheVariants.{Read as reading, Write as writing, Add as adding, Swap as swapping};
-ghost use Rattle.memory.specs.Calls.{Called, Doing, Kept, known_cell, placed, cell_shown};
+ghost use Rattle.memory.specs.declared.operation.Operation.TheVariants.{Read as reading, Write as writing, Add as adding};
+ghost use Rattle.memory.specs.Calls.{Called, Doing, GivesHeld, Kept, SaysWhetherHeld, known_cell, placed, cell_shown};
 
 use crate::cells::COUNT;
 use crate::operation::{Reply, Step};
@@ -47,7 +47,7 @@ pub trait Memory {
 
     // A cell's number. Refused: 1, 2.
     fn read(&mut self, task: u32, cell: u32) -> Result<Reply<u32>, Refusal>
-        ensures { Called limit cells top does self.old self.new task (reading cell) (slice_index (cells self.old) cell) result };
+        ensures { GivesHeld limit cells top does self.old self.new task (reading cell) result };
 
     // Makes this the cell's number. Refused: 1, 2, 3.
     fn write(&mut self, task: u32, cell: u32, number: u32) -> Result<Reply<()>, Refusal>
@@ -55,7 +55,7 @@ pub trait Memory {
 
     // Takes a cell one up or down, and tells what it held before. Refused: 1, 2, 4.
     fn add(&mut self, task: u32, cell: u32, step: Step) -> Result<Reply<u32>, Refusal>
-        ensures { Called limit cells top does self.old self.new task (adding cell step) (slice_index (cells self.old) cell) result };
+        ensures { GivesHeld limit cells top does self.old self.new task (adding cell step) result };
 
     // Where the cell holds the expected number, gives it the new one and says yes; else says no. Refused: 1, 2, 3.
     fn swap(
@@ -65,7 +65,7 @@ pub trait Memory {
         expected: u32,
         new: u32,
     ) -> Result<Reply<bool>, Refusal>
-        ensures { Called limit cells top does self.old self.new task (swapping cell expected new) (slice_index (cells self.old) cell == expected) result };
+        ensures { SaysWhetherHeld limit cells top does self.old self.new task cell expected new result };
 
     ghost one_limit: { LIMIT ≡ limit };
 

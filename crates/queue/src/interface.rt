@@ -2,9 +2,9 @@
 //
 // The meaning of a queue is that list. An implementation shows that its calls
 // do to the list what the clauses below say, and nothing more is asked of it.
-ghost use Rattle.std.specs.Prelude.{◌≡◌, ℕ, List, [], ◌∷◌, ◌++◌, length as size};
-ghost use Rattle.queue.specs.Waiting.{rest, known_task};
-ghost use Rattle.queue.specs.Calls.{Called, first_told, join_refusal, quit_refusal};
+ghost use Rattle.std.specs.Prelude.{◌≡◌, ℕ, List, length as size};
+ghost use Rattle.queue.specs.Waiting.{known_task};
+ghost use Rattle.queue.specs.Calls.{Joins, Quits, first_told};
 
 use crate::refusal::Refusal;
 
@@ -14,7 +14,7 @@ pub trait Queue {
 
     // Appends the task. Refused: 1, and 5 where it waits already.
     fn join(&mut self, task: u32) -> Result<(), Refusal>
-        ensures { Called waiting self.old self.new (join_refusal (waiting self.old) task) (waiting self.old ++ task ∷ []) result };
+        ensures { Joins waiting self.old task result self.new };
 
     // Whether the task is the oldest. Refused: 1.
     fn first(&self, task: u32) -> Result<bool, Refusal>
@@ -22,7 +22,7 @@ pub trait Queue {
 
     // Removes the oldest, which the task has to be. Refused: 1, and 6 where it is not.
     fn quit(&mut self, task: u32) -> Result<(), Refusal>
-        ensures { Called waiting self.old self.new (quit_refusal (waiting self.old) task) (rest (waiting self.old)) result };
+        ensures { Quits waiting self.old task result self.new };
 
     // How many wait.
     fn length(&self) -> u32

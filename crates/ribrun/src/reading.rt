@@ -9,13 +9,13 @@ use streams::writing::write_all;
 const PIECE: usize = 4096;
 
 // Reads an input to its end, or until there are more than 65,536 bytes of it, which is too long for a schedule whatever
-// follows: its listing is that of the whole input. What was read is put into `input`; tells how many bytes that is.
+// follows: its listing is that of the whole input. What was read is put into `out`; tells how many bytes that is.
 // Any error is one of the source's or of what takes the bytes.
 pub fn read_input<S: Source, K: Sink<Error = S::Error>>(
     source: &mut S,
-    input: &mut K,
+    out: &mut K,
 ) -> Result<usize, S::Error>
-    ensures { Reads (S.remaining source.old) (S.remaining source.new) (K.contents input.old) (K.contents input.new) result }
+    ensures { Reads (S.remaining source.old) (S.remaining source.new) (K.contents out.old) (K.contents out.new) result }
 {
     let mut piece = [0; PIECE];
     let mut taken = 0;
@@ -24,7 +24,7 @@ pub fn read_input<S: Source, K: Sink<Error = S::Error>>(
         if count == 0 {
             return Ok(taken);
         }
-        write_all(input, &piece[..count])?;
+        write_all(out, &piece[..count])?;
         taken += count;
     }
     Ok(taken)

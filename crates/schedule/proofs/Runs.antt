@@ -12,11 +12,11 @@ use Rattle.streams.specs.Streams.{Passed}
 use Rattle.streams.proofs.Passed.{appends_none, passed_before, passed_from, passed_more}
 use Rattle.schedule.specs.declared.refusal.Refusal.{Refusal}
 use Rattle.schedule.specs.Desks.{Board, board_tells}
-use Rattle.schedule.specs.Listing.{heard_bytes, numbered, reply_bytes}
+use Rattle.schedule.specs.Listing.{numbered, reply_bytes}
 use Rattle.schedule.specs.Lists.{Lists, ListsOn}
 use Rattle.schedule.specs.Meaning.{listed}
 use Rattle.schedule.specs.Progress.{Progress, after}
-use Rattle.schedule.specs.Replies.{AllObeyed, Heard, Obeyed, RepliesTo, board_after, raised, replied, replies, told}
+use Rattle.schedule.specs.Replies.{AllObeyed, Heard, Obeyed, board_after, raised, replied, replies}
 use Rattle.schedule.proofs.WholeListing.{after_parts, listed_parts}
 
 -- nothing is written
@@ -34,19 +34,13 @@ module _ {S : Type 0} (does : S → Ask → Result Answer LockRefusal → S → 
   pub lists_none : (s : S) (r : Reader) (before : List ℕ) (a : Option (List ℕ)) → Lists does s r before a s r before a
   lists_none s r before a = record { done = []; replies = []; lines = refl; counted = sym (add-zero r.number); obeyed = (refl, refl); passed = passed_none before a }
 
-  -- of what stood before the lines a part is written first
-  pub lists_written : (s t : S) (r q : Reader) (before mid rest : List ℕ) (a b c : Option (List ℕ)) → Passed before a mid b → Lists does s r mid b t q rest c → Lists does s r before a t q rest c
-  lists_written s t r q before mid rest a b c passed h =
-      let tail = numbered r.number h.replies in
-      record { done = h.done; replies = h.replies; lines = h.lines; counted = h.counted; obeyed = h.obeyed; passed = passed_more (before ++ tail) (mid ++ tail) rest a b c (passed_before before tail mid a b passed) h.passed }
-
   -- the line n is done, of which and of the bytes before it a part is written, and then others
-  pub lists_more : (s m t : S) (r q u : Reader) (before mid rest : List ℕ) (a b c : Option (List ℕ)) (l : List ℕ) (h : Heard) (n : ℕ) →
-      to_come r ≡ l ∷ to_come q → q.number ≡ r.number + 1 → n ≡ q.number → RepliesTo does s l h m → Passed (before ++ heard_bytes n h) a mid b → Lists does m q mid b t u rest c → Lists does s r before a t u rest c
-  lists_more s m t r q u before mid rest a b c l h n first on is (reply, obeyed, tells) passed more =
-      let bytes : heard_bytes n h ≡ reply_bytes (r.number + 1) reply = ap (λ k. heard_bytes k h) (is ∙ on) ∙ ap (heard_bytes (r.number + 1)) tells in
+  pub lists_more : (s m t : S) (r q u : Reader) (before mid rest : List ℕ) (a b c : Option (List ℕ)) (l line : List ℕ) (reply : Result Heard Refusal) (n : ℕ) →
+      to_come r ≡ l ∷ to_come q → q.number ≡ r.number + 1 → n ≡ q.number → Obeyed does s (parse l) reply m → reply_bytes n reply ≡ line → Passed (before ++ line) a mid b → Lists does m q mid b t u rest c → Lists does s r before a t u rest c
+  lists_more s m t r q u before mid rest a b c l line reply n first on is obeyed so passed more =
       let tail = numbered q.number more.replies in
-      let counted : tail ≡ numbered (r.number + 1) more.replies = ap (λ k. numbered k more.replies) on in
+      let own = reply_bytes (r.number + 1) reply in
+      let bytes : line ++ tail ≡ own ++ numbered (r.number + 1) more.replies = ap (λ z. z ++ tail) (sym so) ∙ ap (λ k. reply_bytes k reply ++ tail) (is ∙ on) ∙ ap (λ k. own ++ numbered k more.replies) on in
       record {
         done = l ∷ more.done;
         replies = reply ∷ more.replies;
@@ -54,8 +48,8 @@ module _ {S : Type 0} (does : S → Ask → Result Answer LockRefusal → S → 
         counted = more.counted ∙ ap (λ k. k + length more.done) on ∙ one_on r.number (length more.done);
         obeyed = (reply, more.replies, refl, m, obeyed, more.obeyed);
         passed =
-          passed_from _ _ rest a c (append_assoc before (heard_bytes n h) tail ∙ ap (λ z. before ++ (z ++ tail)) bytes ∙ ap (λ z. before ++ (reply_bytes (r.number + 1) reply ++ z)) counted)
-          (passed_more ((before ++ heard_bytes n h) ++ tail) (mid ++ tail) rest a b c (passed_before (before ++ heard_bytes n h) tail mid a b passed) more.passed);
+          passed_from _ _ rest a c (append_assoc before line tail ∙ ap (λ z. before ++ z) bytes)
+          (passed_more ((before ++ line) ++ tail) (mid ++ tail) rest a b c (passed_before (before ++ line) tail mid a b passed) more.passed);
       }
     where
       one_on : (n k : ℕ) → n + 1 + k ≡ n + suc k

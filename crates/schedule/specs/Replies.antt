@@ -73,7 +73,3 @@ module _ {S : Type 0} (does : S → Ask → Result Answer LockRefusal → S → 
   AllObeyed s [] rs t = (rs ≡ []) × (t ≡ s)
   AllObeyed s (l ∷ ls) rs t =
       (r : Result Heard Refusal) × (more : List (Result Heard Refusal)) × (rs ≡ r ∷ more) × (m : S) × Obeyed s (parse l) r m × AllObeyed m ls more t
-
-  -- the line with this text leads from s to t and comes to this
-  abbrev pub RepliesTo : S → List ℕ → Heard → S → Type 0
-  RepliesTo s text h t = (r : Result Heard Refusal) × Obeyed s (parse text) r t × (h ≡ told r)

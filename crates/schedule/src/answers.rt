@@ -31,6 +31,7 @@ fn shown(place: Place, right: Option<Right>) -> Shown
 }
 
 // The place and the cost of a task.
+#[inline(always)]
 fn moved<M: Memory, Q: Queue>(lock: &Lock<'_, M, Q>, task: u32) -> Result<Answer, Refusal>
     ensures { let s = view M.Memory Q.Queue lock.now in result ≡ told (task_refusal s task) (task_shown s task) }
 {
@@ -79,6 +80,7 @@ pub(crate) fn open<S: Store, Q: Queue>(
 }
 
 // Makes the call to this lock.
+#[inline(always)]
 fn make<S: Store, Q: Queue>(
     lock: &mut Lock<'_, Cache<S>, Q>,
     call: Call<'_>,
@@ -121,6 +123,7 @@ impl<S: Store, Q: Queue> Serve for Lock<'_, Cache<S>, Q> {
 
     ghost done = { λ l. false };
 
+    #[inline(always)]
     fn answer(&mut self, call: Call<'_>) -> Result<Answer, Refusal> {
         match make(self, call)? {
             Done::Opened(tasks) => Ok(Answer::Opened(tasks)),

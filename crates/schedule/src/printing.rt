@@ -4,7 +4,7 @@ ghost use Rattle.script.specs.Reading.{to_come};
 ghost use Rattle.schedule.specs.Lists.{IsOver, ListsInto, ListsOnInto};
 ghost use Rattle.schedule.specs.Progress.{Prints, SameDesk, TellsWhole};
 
-use crate::replies::{Reply, reply_of};
+use crate::replies::{Reply, obey};
 use crate::schedule::Schedule;
 use crate::serving::Serve;
 use listing::answer::Answer;
@@ -27,18 +27,25 @@ fn list_lines<V: Serve, S: Sink>(
     ensures input { reader.new.input.now ≡ reader.old.input.now }
 {
     while !server.is_done() {
-        if out.is_full() {
-            out.flush()?;
-        }
         let Some(text) = reader.next_line() else {
             return Ok(());
         };
         let number = reader.number() as u32;
-        match reply_of(server, text) {
-            Reply::Nothing => (),
-            Reply::Note(note) => out.put_note(number, note)?,
-            Reply::Answered(answer) => out.hold_answer(number, answer).unwrap(),
+        let answer = match obey(server, text) {
+            Ok(Reply::Nothing) => continue,
+            Ok(Reply::Note(note)) => {
+                if out.hold_note(number, note).is_err() {
+                    out.put_note(number, note)?;
+                }
+                continue;
+            }
+            Ok(Reply::Answered(answer)) => answer,
+            Err(why) => Answer::Refused(why.number()),
+        };
+        if out.is_full() {
+            out.flush()?;
         }
+        out.hold_answer(number, answer).unwrap();
     }
     Ok(())
 }

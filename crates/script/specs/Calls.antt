@@ -59,6 +59,10 @@ opened (m ∷ q ∷ []) = Err why.Fields
 opened (m ∷ q ∷ roles ∷ []) = opens (memory_kind m) (queue_kind q) roles
 opened (m ∷ q ∷ roles ∷ f ∷ fs) = Err why.Fields
 
+-- the call of a task that the letter names: E, S, U or D, else L
+abbrev pub task_ask : ℕ → ℕ → Ask
+task_ask c t = cond (c == 69) (begin t) (cond (c == 83) (advance t) (cond (c == 85) (upgrade t) (cond (c == 68) (downgrade t) (leave t))))
+
 -- the call that the letter names, with its fields: O, E, S, U, D, L, R or P
 abbrev pub called : ℕ → List (List ℕ) → Result Ask Refusal
 called c fs =

@@ -1,5 +1,6 @@
 -- Which fields are numbers, and what they say.
-use Rattle.std.specs.Prelude.{◌≡◌, ℕ, ◌+◌, ◌-◌, ◌*◌, Bool, true, false, cond, ◌&&◌, List, [], ◌∷◌, length, Ok, Err, Result, ◌==◌, nat_le, nat_lt, min, slice_index, take, drop, ◌⊎◌}
+use Rattle.std.specs.Prelude.{◌≡◌, ℕ, ◌+◌, ◌-◌, ◌*◌, Bool, true, false, cond, ◌&&◌, List, [], ◌∷◌, length, Ok, Err, Result, ◌==◌, nat_le, nat_lt, min, slice_index, take, drop, ◌⊎◌, MatchResult}
+use Rattle.std.specs.Borrow.{Bor}
 use Rattle.std.specs.Char.{is_ascii_digit}
 use Rattle.std.specs.List.{list_all, prefix_len}
 use Rattle.script.specs.declared.refusal.Refusal.{Refusal}
@@ -28,6 +29,10 @@ pub record FrontNumeral (text : List ℕ) (n : ℕ) (more : List ℕ) : Type 0 w
   pub says : n ≡ min (value (take count text)) 4294967296
   pub rest : more ≡ drop count text
   pub whole : ((count ≡ 1) × (slice_index text 0 ≡ 48)) ⊎ (count ≡ prefix_len is_ascii_digit text)
+
+-- a numeral stands at the front of the text, or no digit does
+abbrev pub FrontTold : List ℕ → Result (ℕ × Bor (List ℕ)) Refusal → Type 0
+FrontTold text r = MatchResult r (λ p. FrontNumeral text p.0 p.1.now) (λ e. (prefix_len is_ascii_digit text ≡ 0) × (e ≡ why.Fields))
 
 -- the fields fs are a numeral and those that are left, gs; n is the number that it says, or 2 ^ 32 where it is larger
 pub record LedByNumber (fs : List (List ℕ)) (n : ℕ) (gs : List (List ℕ)) : Type 0 where

@@ -5,7 +5,7 @@ ghost use Rattle.std.specs.Char.{is_ascii_digit};
 ghost use Rattle.std.specs.List.{prefix_len};
 ghost use Rattle.script.specs.declared.refusal.Refusal.TheVariants as why;
 ghost use Rattle.script.specs.Fields.{left};
-ghost use Rattle.script.specs.Numbers.{FrontNumeral, TookNumber, narrowed, one, three, two, value_after};
+ghost use Rattle.script.specs.Numbers.{FrontTold, TookNumber, narrowed, one, three, two, value_after};
 
 use crate::fields::{Fields, past_space};
 use crate::refusal::Refusal;
@@ -36,7 +36,7 @@ fn digits<'a>(front: u8, text: &'a [u8]) -> (u64, &'a [u8])
 // where it is larger, and what stands after it. Refused: 41, where no digit stands there.
 #[inline(always)]
 fn numeral<'a>(text: &'a [u8]) -> Result<(u64, &'a [u8]), Refusal>
-    ensures { MatchResult result (λ p. FrontNumeral text.now p.0 p.1.now) (λ e. (prefix_len is_ascii_digit text.now ≡ 0) × (e ≡ why.Fields)) }
+    ensures { FrontTold text.now result }
 {
     let (first, later) = text.split_first().ok_or(Refusal::Fields)?;
     if *first == b'0' {

@@ -1,7 +1,7 @@
 // What one line says. The byte at its front alone decides whether the letter is
 // known; then the fields are judged, all of them before the size of any number.
-ghost use Rattle.std.specs.Prelude.{◌≡◌, ◌==◌, cond};
-ghost use Rattle.script.specs.Calls.{advance, begin, downgrade, leave, upgrade, opening as opening_of, over, called, put, read, arguments, parse, ask, said, opened, Whole};
+ghost use Rattle.std.specs.Prelude.{◌≡◌};
+ghost use Rattle.script.specs.Calls.{opening as opening_of, over, called, put, read, arguments, parse, ask, said, opened, task_ask, Whole};
 ghost use Rattle.script.specs.Fields.{left};
 ghost use Rattle.script.specs.Numbers.{three, two};
 
@@ -66,7 +66,7 @@ fn put_call<'a>(text: &'a [u8]) -> Result<Call<'a>, Refusal>
 // their field is read in one place.
 #[inline(always)]
 fn task_call<'a>(letter: char, task: u32) -> Call<'a>
-    ensures { ask result ≡ cond (letter == 69) (begin task) (cond (letter == 83) (advance task) (cond (letter == 85) (upgrade task) (cond (letter == 68) (downgrade task) (leave task)))) }
+    ensures { ask result ≡ task_ask letter task }
 {
     match letter {
         'E' => Call::Begin(task),

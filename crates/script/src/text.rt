@@ -1,7 +1,7 @@
 // Where a line ends: at the first byte 10. The last line may end with the input,
 // and then the place after it is the end of the input.
 ghost use Rattle.std.specs.Prelude.{◌≡◌, ◌+◌, ◌<◌, ◌≤◌, MatchOption, drop, length};
-ghost use Rattle.script.specs.Cuts.{before};
+ghost use Rattle.script.specs.Cuts.{FirstAt, before};
 ghost use Rattle.script.specs.Reading.{LineAt};
 
 use memchr::memchr;
@@ -12,7 +12,7 @@ use std::simd::prelude::*;
 fn first_of<const N: usize>(text: &[u8], mark: u8) -> Option<usize>
     requires lanes { N ≤ 64 }
     requires long { N ≤ length text.now }
-    ensures { MatchOption result (before mark text.now ≡ N + before mark (drop N text.now)) (λ at. (before mark text.now ≡ at) × (at < length text.now)) }
+    ensures { MatchOption result (before mark text.now ≡ N + before mark (drop N text.now)) (FirstAt mark text.now) }
 {
     let marks = Simd::<u8, N>::from_slice(text).simd_eq(Simd::splat(mark));
     if marks.any() {
@@ -24,7 +24,7 @@ fn first_of<const N: usize>(text: &[u8], mark: u8) -> Option<usize>
 // Where the first `mark` stands, if it is one of the first 16 bytes, which are asked at once; nothing where there are fewer.
 #[inline(always)]
 fn near(text: &[u8], mark: u8) -> Option<usize>
-    ensures { MatchOption result (16 ≤ length text.now → 16 ≤ before mark text.now) (λ at. (before mark text.now ≡ at) × (at < length text.now)) }
+    ensures { MatchOption result (16 ≤ length text.now → 16 ≤ before mark text.now) (FirstAt mark text.now) }
 {
     if text.len() < 16 {
         return None;
@@ -34,7 +34,7 @@ fn near(text: &[u8], mark: u8) -> Option<usize>
 
 // Where the first `mark` stands; nothing where there is none. 64 bytes are asked at once.
 fn far(text: &[u8], mark: u8) -> Option<usize>
-    ensures { MatchOption result (before mark text.now ≡ length text.now) (λ at. (before mark text.now ≡ at) × (at < length text.now)) }
+    ensures { MatchOption result (before mark text.now ≡ length text.now) (FirstAt mark text.now) }
 {
     let blocks = text.len() / 64;
     for i in 0..blocks {

@@ -1,119 +1,151 @@
-use Rattle.std.proofs.Common.{◌≡◌, ◌≤◌, ℕ, List, ◌++◌, length, Ok, Err, IsOk, Option, Result, refl, sym, ap, ◌∙◌, subst, rules, arith}
+use Rattle.std.proofs.Common.{◌≡◌, ◌≤◌, ℕ, true, false, List, [], ◌++◌, length, is_err, Ok, Err, Option, Result, refl, sym, ap, ◌∙◌, subst, rules, arith}
+use Rattle.std.proofs.lemmas.Bool.{false≢true}
 use Rattle.std.proofs.lemmas.Result.{MatchResult-from_err}
 use Rattle.script.specs.declared.reader.Reader.{Reader}
 use Rattle.listing.specs.declared.output.Output.{Output}
-use Rattle.listing.specs.declared.refusal.Refusal.{Refusal}
-use Rattle.listing.specs.Outputs.{Holds, held}
-use Rattle.streams.specs.Streams.{Passed}
+use Rattle.listing.specs.declared.answer.Answer.TheVariants.{Refused}
+use Rattle.listing.specs.declared.refusal.Refusal.{Refusal as ListingRefusal}
+use Rattle.listing.specs.Listing.{noted, shown}
+use Rattle.listing.specs.Outputs.{Appended, Holds, full, held}
+use Rattle.streams.proofs.Passed.{cut_before, passed_before, passed_more}
+use Rattle.std.specs.Prelude.{MatchResult}
+use Rattle.streams.specs.Streams.{Cut, Passed}
 use Rattle.schedule.specs.Lists.{Lists}
-use Rattle.schedule.specs.Replies.{answering, nothing, noting}
-use Rattle.schedule.proofs.Runs.{all_passed, lists_more, lists_none, lists_written, none_passed, passed_none}
-use Rattle.schedule.proofs.printing.list_lines.Goals.{Joined-is_full, else-is_full, then-is_full+in_ok-flush}
-use Rattle.schedule.proofs.printing.list_lines.Given.{Over}
+use Rattle.schedule.specs.declared.refusal.Refusal.{Refusal}
+use Rattle.schedule.specs.declared.replies.Reply.{Reply}
+use Rattle.schedule.specs.declared.replies.Reply.TheVariants.{Answered, Note, Nothing}
+use Rattle.schedule.specs.Listing.{heard_bytes, reply_bytes}
+use Rattle.schedule.specs.Refusals.{refusal_number}
+use Rattle.schedule.specs.Replies.{heard, heard_so}
+use Rattle.schedule.proofs.Runs.{all_passed, lists_more, lists_none, none_passed, passed_none}
+use Rattle.schedule.proofs.printing.list_lines.Goals.{else-is_full, in-Err, in-Ok-Answered, then-is_full+in_ok-flush}
 use Rattle.schedule.proofs.printing.list_lines.Goals as goal
 
-pub loop-out-init : goal.loop-out-init
-loop-out-init g c = (refl, λ t q rest x h. h)
+-- a line that was held, or not, where the buffer is full
+
+passed_held : {K : Type 0} (contents : K → Option (List ℕ)) (line : List ℕ) (o p : Output K) (r : Result (Unit {0}) ListingRefusal) → false ≡ is_err r → Holds line o r p → Passed (held o ++ line) (contents o.sink) (held p) (contents p.sink)
+passed_held contents line o p (Ok u) is (sink, more) = subst (λ k. Passed (held o ++ line) (contents o.sink) (held p) (contents k)) (sym sink) (subst (λ z. Passed (held o ++ line) (contents o.sink) z (contents o.sink)) (sym more) (none_passed (held o ++ line) (contents o.sink)))
+passed_held contents line o p (Err e) is h = absurd (false≢true is)
+
+passed_ok : {K : Type 0} (contents : K → Option (List ℕ)) (line : List ℕ) (o p : Output K) (r : Result (Unit {0}) ListingRefusal) → r ≡ Ok tt → Holds line o r p → Passed (held o ++ line) (contents o.sink) (held p) (contents p.sink)
+passed_ok contents line o p r is h = passed_held contents line o p r (sym (ap is_err is)) h
+
+-- then it is put by the longer way
+passed_full : {K E : Type 0} (contents : K → Option (List ℕ)) (line : List ℕ) (o p q : Output K) (r : Result (Unit {0}) ListingRefusal) (x : Result (Unit {0}) E) → true ≡ is_err r → Holds line o r p → Appended contents line p x q → Appended contents line o x q
+passed_full contents line o p q (Ok u) x is h a = absurd (false≢true (sym is))
+passed_full {K} contents line o p q (Err e) x is (sink, same) a =
+    let alike : Appended contents line p x q ≡ Appended contents line o x q = λ i. MatchResult x (λ _. Passed (same.0 i ++ line) (contents (sink i)) (held q) (contents q.sink)) (λ _. Cut (same.0 i ++ line) (contents (sink i)) (contents q.sink)) in
+    subst (λ z. z) alike a
+
+-- the bytes of a line, by what it came to
+
+quiet : (n : ℕ) (r : Result Reply Refusal) (f h : Reply) → r ≡ Ok f → f ≡ h → reply_bytes n (heard_so r) ≡ heard_bytes n (heard h)
+quiet n r f h is so = ap (λ (z : Result Reply Refusal). reply_bytes n (heard_so z)) is ∙ ap (λ z. heard_bytes n (heard z)) so
+
+refused : (n : ℕ) (r : Result Reply Refusal) (e : Refusal) (k : ℕ) → r ≡ Err e → k ≡ refusal_number e → reply_bytes n (heard_so r) ≡ shown n (Refused k)
+refused n r e k is number = ap (λ (z : Result Reply Refusal). reply_bytes n (heard_so z)) is ∙ ap (λ k. shown n (Refused k)) (sym number)
+
+pub loop-reader-init : goal.loop-reader-init
+loop-reader-init g c = (refl, λ t q rest x h. h)
 
 pub overflow_cast-number : goal.overflow_cast-number
 overflow_cast-number g c =
-    let few : c.number-number.result ≤ 65536 = omega (arith, c.number-number.ensures.within, ap length c.in-Some.ensures.same_input, ap length c.loop-out.invariant.0, c.requires) in
+    let few : c.number-number.result ≤ 65536 = omega (arith, c.number-number.ensures.within, ap length c.in-Some.ensures.same_input, ap length c.loop-reader.invariant.0, c.requires) in
     search rules
-
--- what is held is written first, where it fills the buffer
-written_now : (g : Over) (c : Joined-is_full g) → Passed (held c.loop-out.out) (g.S.Sink.contents c.loop-out.out.sink) (held c.if-is_full.out) (g.S.Sink.contents c.if-is_full.out.sink)
-written_now g c =
-    let before = held c.loop-out.out in
-    let a = g.S.Sink.contents c.loop-out.out.sink in
-    elim c.if-is_full.branch [
-      | then-is_full+in_ok-flush w ↦ subst (λ (o : Output g.row.S.Denot). Passed before a (held o) (g.S.Sink.contents o.sink)) (sym w.out-is) (all_passed before (held w.flush.new.self) a _ w.in_ok-flush.ensures.written w.in_ok-flush.ensures.empty)
-      | else-is_full w ↦ subst (λ (o : Output g.row.S.Denot). Passed before a (held o) (g.S.Sink.contents o.sink)) (sym w.out-is) (none_passed before a)
-    ]
-
-few_now : (g : Over) (c : Joined-is_full g) → c.if-is_full.out.count ≤ 4032
-few_now g c =
-    elim c.if-is_full.branch [
-      | then-is_full+in_ok-flush w ↦ subst (λ (o : Output g.row.S.Denot). o.count ≤ 4032) (sym w.out-is) (omega (arith, w.in_ok-flush.ensures.none))
-      | else-is_full w ↦ subst (λ (o : Output g.row.S.Denot). o.count ≤ 4032) (sym w.out-is) (search rules)
-    ]
-
--- where the buffer is not full a line is held
-is_held : {K : Type 0} (line : List ℕ) (o p : Output K) (r : Result (Unit {0}) Refusal) → o.count ≤ 4032 → Holds line o r p → IsOk r
-is_held line o p (Ok u) few h = refl
-is_held line o p (Err e) few h = absurd (omega (arith, h.0))
-
-passed_held : {K : Type 0} (contents : K → Option (List ℕ)) (line : List ℕ) (o p : Output K) (r : Result (Unit {0}) Refusal) → r ≡ Ok tt → Holds line o r p → Passed (held o ++ line) (contents o.sink) (held p) (contents p.sink)
-passed_held contents line o p r is h =
-    let (few, same, more) = subst (λ r. Holds line o r p) is h in
-    subst (λ k. Passed (held o ++ line) (contents o.sink) (held p) (contents k)) (sym same) (subst (λ z. Passed (held o ++ line) (contents o.sink) z (contents o.sink)) (sym more) (none_passed (held o ++ line) (contents o.sink)))
-
-pub returns-in_err-flush-clause-lists : goal.returns-in_err-flush-clause-lists
-returns-in_err-flush-clause-lists g c =
-    let (rest, cut) = c.in_err-flush.ensures.written in
-    let s = c.loop-out.server in
-    let r = c.loop-out.reader in
-    let x = g.S.Sink.contents c.flush.new.self.sink in
-    MatchResult-from_err c.from_residual.result _ _ c.from_residual.ensures.0
-    (λ e. (rest, c.loop-out.invariant.1 s r rest x (lists_written g.V.Serve.serves s s r r (held c.loop-out.out) rest rest _ x x cut (lists_none g.V.Serve.serves s r rest x))))
 
 pub returns-in_default-clause-lists : goal.returns-in_default-clause-lists
 returns-in_default-clause-lists g c =
-    let s = c.loop-out.server in
-    let r = c.loop-out.reader in
-    let before = held c.if-is_full.out in
-    let a = g.S.Sink.contents c.if-is_full.out.sink in
+    let s = c.loop-reader.server in
+    let before = held c.loop-reader.out in
+    let a = g.S.Sink.contents c.loop-reader.out.sink in
     let same = sym c.in_default.ensures.1 in
-    c.loop-out.invariant.1 s c.next_line.new.self before a
-    (lists_written g.V.Serve.serves s s r c.next_line.new.self (held c.loop-out.out) before before _ a a (written_now g c.before.before.before) (subst (λ q. Lists g.V.Serve.serves s r before a s q before a) same (lists_none g.V.Serve.serves s r before a)))
+    c.loop-reader.invariant.1 s c.next_line.new.self before a (subst (λ q. Lists g.V.Serve.serves s c.loop-reader.reader before a s q before a) same (lists_none g.V.Serve.serves s c.loop-reader.reader before a))
 
 pub returns-in_default-clause-input : goal.returns-in_default-clause-input
-returns-in_default-clause-input g c = ap (λ (r : Reader). r.input.now) c.in_default.ensures.1 ∙ c.loop-out.invariant.0
+returns-in_default-clause-input g c = ap (λ (r : Reader). r.input.now) c.in_default.ensures.1 ∙ c.loop-reader.invariant.0
 
-pub loop-out-preserved-in-Nothing : goal.loop-out-preserved-in-Nothing
-loop-out-preserved-in-Nothing g c = (
-  c.in-Some.ensures.same_input ∙ c.loop-out.invariant.0,
-  λ t q rest x h. c.loop-out.invariant.1 t q rest x
-  (lists_written g.V.Serve.serves c.loop-out.server t c.loop-out.reader q (held c.loop-out.out) (held c.if-is_full.out) rest _ (g.S.Sink.contents c.if-is_full.out.sink) x (written_now g c.before.before.before.before.before.before.before)
-    (lists_more g.V.Serve.serves c.loop-out.server c.reply_of.new.server t c.loop-out.reader c.next_line.new.self q (held c.if-is_full.out) (held c.if-is_full.out) rest _ _ x c.in-Some.text.now nothing c.number-number.result c.in-Some.ensures.first c.in-Some.ensures.counted c.number-number.ensures.value c.in-Nothing.ensures.replies (passed_none (held c.if-is_full.out) _) h)),
-)
+pub loop-reader-preserved-in-Ok-Nothing : goal.loop-reader-preserved-in-Ok-Nothing
+loop-reader-preserved-in-Ok-Nothing g c = (
+      c.in-Some.ensures.same_input ∙ c.loop-reader.invariant.0,
+      λ t q rest x h. c.loop-reader.invariant.1 t q rest x
+      (lists_more g.V.Serve.serves c.loop-reader.server c.obey.new.server t c.loop-reader.reader c.next_line.new.self q (held c.loop-reader.out) (held c.loop-reader.out) rest _ _ x c.in-Some.text.now [] (heard_so c.obey.result) c.number-number.result c.in-Some.ensures.first c.in-Some.ensures.counted c.number-number.ensures.value c.obey.ensures.obeys (quiet c.number-number.result c.obey.result c.in-Ok-Nothing.field-0 Nothing c.in-Ok-Nothing.is c.in-Ok-Nothing.field-0-is) (passed_none (held c.loop-reader.out) _) h),
+    )
 
-pub loop-out-preserved-in-Continue-branch-2 : goal.loop-out-preserved-in-Continue-branch-2
-loop-out-preserved-in-Continue-branch-2 g c = (
-  c.in-Some.ensures.same_input ∙ c.loop-out.invariant.0,
-  λ t q rest x h. c.loop-out.invariant.1 t q rest x
-  (lists_written g.V.Serve.serves c.loop-out.server t c.loop-out.reader q (held c.loop-out.out) (held c.if-is_full.out) rest _ (g.S.Sink.contents c.if-is_full.out.sink) x (written_now g c.before.before.before.before.before.before.before.before.before.before.before)
-    (lists_more g.V.Serve.serves c.loop-out.server c.reply_of.new.server t c.loop-out.reader c.next_line.new.self q (held c.if-is_full.out) (held c.put_note.new.self) rest _ _ x c.in-Some.text.now (noting c.in-Note.note.now) c.number-number.result c.in-Some.ensures.first c.in-Some.ensures.counted c.number-number.ensures.value c.in-Note.ensures.replies c.in_ok-put_note-in-Note.ensures.appended h)),
-)
-
-pub loop-out-preserved : goal.loop-out-preserved
-loop-out-preserved g c = (
-  c.in-Some.ensures.same_input ∙ c.loop-out.invariant.0,
-  λ t q rest x h. c.loop-out.invariant.1 t q rest x
-  (lists_written g.V.Serve.serves c.loop-out.server t c.loop-out.reader q (held c.loop-out.out) (held c.if-is_full.out) rest _ (g.S.Sink.contents c.if-is_full.out.sink) x (written_now g c.before.before.before.before.before.before.before.before.before.before)
-    (lists_more g.V.Serve.serves c.loop-out.server c.reply_of.new.server t c.loop-out.reader c.next_line.new.self q (held c.if-is_full.out) (held c.hold_answer.new.self) rest _ _ x c.in-Some.text.now (answering c.in-Answered.answer) c.number-number.result c.in-Some.ensures.first c.in-Some.ensures.counted c.number-number.ensures.value c.in-Answered.ensures.replies (passed_held g.S.Sink.contents _ c.if-is_full.out c.hold_answer.new.self c.hold_answer.result c.unwrap.ensures c.hold_answer.ensures) h)),
-)
-
-pub returns-in_err-put_note-in-Note-clause-lists : goal.returns-in_err-put_note-in-Note-clause-lists
-returns-in_err-put_note-in-Note-clause-lists g c =
-    let (rest, cut) = c.in_err-put_note-in-Note.ensures.appended in
-    let m = c.reply_of.new.server in
+pub returns-in_err-put_note-in-Ok-Note-clause-lists : goal.returns-in_err-put_note-in-Ok-Note-clause-lists
+returns-in_err-put_note-in-Ok-Note-clause-lists g c =
+    let m = c.obey.new.server in
     let n = c.next_line.new.self in
     let x = g.S.Sink.contents c.put_note.new.self.sink in
-    let r = c.from_residual-in_err-put_note-in-Note in
+    let (rest, cut) = passed_full g.S.Sink.contents (noted c.number-number.result c.in-Ok-Note.note.now) c.loop-reader.out c.hold_note.new.self c.put_note.new.self c.hold_note.result (Err c.in_err-put_note-in-Ok-Note.field-0.0) c.if-is_err.ensures.value c.hold_note.ensures.holds c.in_err-put_note-in-Ok-Note.ensures.appended in
+    let r = c.from_residual in
     MatchResult-from_err r.result _ _ r.ensures.0
-    (λ e. (rest, c.loop-out.invariant.1 m n rest x
-    (lists_written g.V.Serve.serves c.loop-out.server m c.loop-out.reader n (held c.loop-out.out) (held c.if-is_full.out) rest _ (g.S.Sink.contents c.if-is_full.out.sink) x (written_now g c.before.before.before.before.before.before.before.before.before.before.before.before)
-    (lists_more g.V.Serve.serves c.loop-out.server c.reply_of.new.server m c.loop-out.reader c.next_line.new.self n (held c.if-is_full.out) rest rest _ _ x c.in-Some.text.now (noting c.in-Note.note.now) c.number-number.result c.in-Some.ensures.first c.in-Some.ensures.counted c.number-number.ensures.value c.in-Note.ensures.replies cut (lists_none g.V.Serve.serves m n rest x)))))
+    (λ e. (rest, c.loop-reader.invariant.1 m n rest x
+    (lists_more g.V.Serve.serves c.loop-reader.server c.obey.new.server m c.loop-reader.reader c.next_line.new.self n (held c.loop-reader.out) rest rest _ _ x c.in-Some.text.now (noted c.number-number.result c.in-Ok-Note.note.now) (heard_so c.obey.result) c.number-number.result c.in-Some.ensures.first c.in-Some.ensures.counted c.number-number.ensures.value c.obey.ensures.obeys (quiet c.number-number.result c.obey.result c.in-Ok-Note.field-0 (Note c.in-Ok-Note.note) c.in-Ok-Note.is c.in-Ok-Note.field-0-is) cut (lists_none g.V.Serve.serves m n rest x))))
+
+pub loop-reader-preserved-in_ok-put_note-in-Ok-Note : goal.loop-reader-preserved-in_ok-put_note-in-Ok-Note
+loop-reader-preserved-in_ok-put_note-in-Ok-Note g c = (
+      c.in-Some.ensures.same_input ∙ c.loop-reader.invariant.0,
+      λ t q rest x h. c.loop-reader.invariant.1 t q rest x
+      (lists_more g.V.Serve.serves c.loop-reader.server c.obey.new.server t c.loop-reader.reader c.next_line.new.self q (held c.loop-reader.out) (held c.put_note.new.self) rest _ _ x c.in-Some.text.now (noted c.number-number.result c.in-Ok-Note.note.now) (heard_so c.obey.result) c.number-number.result c.in-Some.ensures.first c.in-Some.ensures.counted c.number-number.ensures.value c.obey.ensures.obeys (quiet c.number-number.result c.obey.result c.in-Ok-Note.field-0 (Note c.in-Ok-Note.note) c.in-Ok-Note.is c.in-Ok-Note.field-0-is) (passed_full {E = g.row.S-Error.Denot} g.S.Sink.contents (noted c.number-number.result c.in-Ok-Note.note.now) c.loop-reader.out c.hold_note.new.self c.put_note.new.self c.hold_note.result (Ok tt) c.if-is_err.ensures.value c.hold_note.ensures.holds c.in_ok-put_note-in-Ok-Note.ensures.appended) h),
+    )
+
+pub loop-reader-preserved-else-is_err : goal.loop-reader-preserved-else-is_err
+loop-reader-preserved-else-is_err g c = (
+      c.in-Some.ensures.same_input ∙ c.loop-reader.invariant.0,
+      λ t q rest x h. c.loop-reader.invariant.1 t q rest x
+      (lists_more g.V.Serve.serves c.loop-reader.server c.obey.new.server t c.loop-reader.reader c.next_line.new.self q (held c.loop-reader.out) (held c.hold_note.new.self) rest _ _ x c.in-Some.text.now (noted c.number-number.result c.in-Ok-Note.note.now) (heard_so c.obey.result) c.number-number.result c.in-Some.ensures.first c.in-Some.ensures.counted c.number-number.ensures.value c.obey.ensures.obeys (quiet c.number-number.result c.obey.result c.in-Ok-Note.field-0 (Note c.in-Ok-Note.note) c.in-Ok-Note.is c.in-Ok-Note.field-0-is) (passed_held g.S.Sink.contents (noted c.number-number.result c.in-Ok-Note.note.now) c.loop-reader.out c.hold_note.new.self c.hold_note.result c.if-is_err.ensures.value c.hold_note.ensures.holds) h),
+    )
+
+pub returns-in_err-flush-clause-lists : goal.returns-in_err-flush-clause-lists
+returns-in_err-flush-clause-lists g c =
+    let so : reply_bytes c.number-number.result (heard_so c.obey.result) ≡ shown c.number-number.result c.match-obey.answer = elim c.match-obey.branch [
+      | in-Ok-Answered w ↦ quiet c.number-number.result c.obey.result w.in-Ok-Answered.field-0 (Answered w.in-Ok-Answered.answer) w.in-Ok-Answered.is w.in-Ok-Answered.field-0-is ∙ ap (shown c.number-number.result) (sym w.answer-is)
+      | in-Err w ↦ refused c.number-number.result c.obey.result w.in-Err.why w.number.result w.in-Err.is w.number.ensures ∙ ap (shown c.number-number.result) (sym w.answer-is)
+    ] in
+    let m = c.obey.new.server in
+    let n = c.next_line.new.self in
+    let x = g.S.Sink.contents c.flush.new.self.sink in
+    let (rest, cut) = cut_before (held c.loop-reader.out) (shown c.number-number.result c.match-obey.answer) _ x c.in_err-flush.ensures.written in
+    let r = c.from_residual-in_err-flush in
+    MatchResult-from_err r.result _ _ r.ensures.0
+    (λ e. (rest, c.loop-reader.invariant.1 m n rest x
+    (lists_more g.V.Serve.serves c.loop-reader.server c.obey.new.server m c.loop-reader.reader c.next_line.new.self n (held c.loop-reader.out) rest rest _ _ x c.in-Some.text.now (shown c.number-number.result c.match-obey.answer) (heard_so c.obey.result) c.number-number.result c.in-Some.ensures.first c.in-Some.ensures.counted c.number-number.ensures.value c.obey.ensures.obeys so cut (lists_none g.V.Serve.serves m n rest x))))
 
 pub unwrap-requires : goal.unwrap-requires
-unwrap-requires g c = is_held _ c.if-is_full.out c.hold_answer.new.self c.hold_answer.result (few_now g c.before.before.before.before.before.before.before.before.before) c.hold_answer.ensures
+unwrap-requires g c =
+    let few : full c.if-is_full.out ≡ false = elim c.if-is_full.branch [
+      | then-is_full+in_ok-flush w ↦ ap full w.out-is ∙ w.in_ok-flush.ensures.room
+      | else-is_full w ↦ ap full w.out-is ∙ sym w.if-is_full.ensures
+    ] in
+    c.hold_answer.ensures.fits few
+
+pub loop-reader-preserved : goal.loop-reader-preserved
+loop-reader-preserved g c =
+    let so : reply_bytes c.number-number.result (heard_so c.obey.result) ≡ shown c.number-number.result c.match-obey.answer = elim c.match-obey.branch [
+      | in-Ok-Answered w ↦ quiet c.number-number.result c.obey.result w.in-Ok-Answered.field-0 (Answered w.in-Ok-Answered.answer) w.in-Ok-Answered.is w.in-Ok-Answered.field-0-is ∙ ap (shown c.number-number.result) (sym w.answer-is)
+      | in-Err w ↦ refused c.number-number.result c.obey.result w.in-Err.why w.number.result w.in-Err.is w.number.ensures ∙ ap (shown c.number-number.result) (sym w.answer-is)
+    ] in
+    let before = held c.loop-reader.out in
+    let a = g.S.Sink.contents c.loop-reader.out.sink in
+    let o = c.if-is_full.out in
+    let first : Passed before a (held o) (g.S.Sink.contents o.sink) = elim c.if-is_full.branch [
+      | then-is_full+in_ok-flush w ↦ subst (λ (o : Output g.row.S.Denot). Passed before a (held o) (g.S.Sink.contents o.sink)) (sym w.out-is) (all_passed before (held w.flush.new.self) a _ w.in_ok-flush.ensures.written w.in_ok-flush.ensures.empty)
+      | else-is_full w ↦ subst (λ (o : Output g.row.S.Denot). Passed before a (held o) (g.S.Sink.contents o.sink)) (sym w.out-is) (none_passed before a)
+    ] in
+    let p = c.hold_answer.new.self in
+    let line = passed_ok g.S.Sink.contents (shown c.number-number.result c.match-obey.answer) o p c.hold_answer.result c.unwrap.ensures c.hold_answer.ensures.holds in
+    let passed = passed_more (before ++ (shown c.number-number.result c.match-obey.answer)) (held o ++ (shown c.number-number.result c.match-obey.answer)) (held p) a _ _ (passed_before before (shown c.number-number.result c.match-obey.answer) (held o) a _ first) line in (
+      c.in-Some.ensures.same_input ∙ c.loop-reader.invariant.0,
+      λ t q rest x h. c.loop-reader.invariant.1 t q rest x
+      (lists_more g.V.Serve.serves c.loop-reader.server c.obey.new.server t c.loop-reader.reader c.next_line.new.self q (held c.loop-reader.out) (held p) rest _ _ x c.in-Some.text.now (shown c.number-number.result c.match-obey.answer) (heard_so c.obey.result) c.number-number.result c.in-Some.ensures.first c.in-Some.ensures.counted c.number-number.ensures.value c.obey.ensures.obeys so passed h),
+    )
 
 pub returns-clause-lists : goal.returns-clause-lists
 returns-clause-lists g c =
-    let s = c.loop-out.server in
-    let before = held c.loop-out.out in
-    let a = g.S.Sink.contents c.loop-out.out.sink in
-    c.loop-out.invariant.1 s c.loop-out.reader before a (lists_none g.V.Serve.serves s c.loop-out.reader before a)
+    let s = c.loop-reader.server in
+    let before = held c.loop-reader.out in
+    let a = g.S.Sink.contents c.loop-reader.out.sink in
+    c.loop-reader.invariant.1 s c.loop-reader.reader before a (lists_none g.V.Serve.serves s c.loop-reader.reader before a)
 
 pub returns-clause-input : goal.returns-clause-input
-returns-clause-input g c = c.loop-out.invariant.0
+returns-clause-input g c = c.loop-reader.invariant.0

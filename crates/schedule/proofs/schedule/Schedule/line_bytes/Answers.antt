@@ -7,9 +7,9 @@ use Rattle.script.specs.Reading.{to_come}
 use Rattle.schedule.specs.declared.desk.Desk.{Desk}
 use Rattle.schedule.specs.declared.refusal.Refusal.{Refusal}
 use Rattle.schedule.specs.Desks.{Board, LocksTell, board}
-use Rattle.schedule.specs.Listing.{heard_bytes, reply_bytes}
+use Rattle.schedule.specs.Listing.{reply_bytes}
 use Rattle.schedule.specs.Progress.{GivesLine, Progress, progress}
-use Rattle.schedule.specs.Replies.{Heard, heard}
+use Rattle.schedule.specs.Replies.{Heard, heard_so}
 use Rattle.schedule.proofs.Printed.{next_is}
 use Rattle.schedule.proofs.Runs.{line_keeps, line_seen}
 use Rattle.schedule.proofs.schedule.Schedule.line_bytes.Goals as goal
@@ -23,13 +23,13 @@ returns-clause-gives c =
     let text = c.in-Some-next_line.text.now in
     let line = c.in-Some-next_line.ensures in
     let q = c.next_line.new.self in
-    let (r, obeyed, tells) = c.reply_of-reply.ensures.replies in
-    let seen = line_seen Told (λ (d : Desk). board d.locks) (λ d a o e t. t.0) (parse text) s.desk.now c.reply_of-reply.new.server r obeyed in
+    let r = heard_so c.obey-reply.result in
+    let seen = line_seen Told (λ (d : Desk). board d.locks) (λ d a o e t. t.0) (parse text) s.desk.now c.obey-reply.new.server r c.obey-reply.ensures.obeys in
     let told : s.untold ≡ None = search rules in
     let still : c.take.new.self ≡ None = search rules in
     let is = next_is (progress s) text (to_come q) told line.first in
     let number : c.number-number.result ≡ s.reader.number + 1 = c.number-number.ensures.value ∙ line.counted in
-    let bytes = ap (λ k. heard_bytes k (heard c.reply_of-reply.result)) number ∙ ap (heard_bytes (s.reader.number + 1)) tells ∙ ap (λ (z : Result Heard Refusal × Board). reply_bytes (s.reader.number + 1) z.0) seen in
+    let bytes = ap (λ k. reply_bytes k r) number ∙ ap (λ (z : Result Heard Refusal × Board). reply_bytes (s.reader.number + 1) z.0) seen in
     let took = subst (λ bs. TookBytes c.args.out.now bs c.put_reply-2.result c.put_reply-2.new.out) bytes c.put_reply-2.ensures in (
       omega arith,
       subst (λ (z : Option (List ℕ) × Progress). GivesLine z.0 c.args.out.now (Some c.put_reply-2.result) c.put_reply-2.new.out) (sym is) took,
@@ -39,9 +39,10 @@ returns-clause-gives c =
 pub returns-clause-same : goal.returns-clause-same
 returns-clause-same c =
     let d = c.args.self.now.desk.now in
-    let e = c.reply_of-reply.new.server in
+    let e = c.obey-reply.new.server in
     let said = parse c.in-Some-next_line.text.now in
-    let (r, obeyed, tells) = c.reply_of-reply.ensures.replies in (
+    let r = heard_so c.obey-reply.result in
+    let obeyed = c.obey-reply.ensures.obeys in (
       refl,
       record {
         words_ring = line_keeps Told (λ (d : Desk). d.locks.words_ring.table.ghost_name) (λ d a o e t. t.1.words_ring) said d e r obeyed;
