@@ -26,13 +26,12 @@ impl Place {
         ensures written { Takes at out.old (placed self) result out.new }
         ensures short { length (placed self) ≤ 10 }
     {
-        let letter = match self {
-            Place::Rest => b'-',
-            Place::Reading => b'r',
-            Place::Writing => b'w',
-            Place::At(line) => return put_number(out, at, line),
-        };
-        put_byte(out, at, letter)
+        match self {
+            Place::Rest => put_byte(out, at, b'-'),
+            Place::Reading => put_byte(out, at, b'r'),
+            Place::Writing => put_byte(out, at, b'w'),
+            Place::At(line) => put_number(out, at, line),
+        }
     }
 }
 

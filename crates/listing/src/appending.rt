@@ -14,6 +14,7 @@ use streams::writing::write_all;
 impl<S: Sink> Output<S> {
     /// Writes all that is held. No byte is held then, whatever comes of it. The error is the sink's.
     #[cold]
+    #[inline(never)]
     pub fn flush(&mut self) -> Result<(), S::Error>
         ensures written { Writes (held self.old) (S.contents self.old.sink) (S.contents self.new.sink) result }
         ensures empty { held self.new ≡ [] }
@@ -53,6 +54,7 @@ impl<S: Sink> Output<S> {
     }
 
     /// Appends the line `number` of the listing, for a note. The error is the sink's.
+    #[inline(never)]
     pub fn put_note(&mut self, number: u32, text: &[u8]) -> Result<(), S::Error>
         ensures appended { Appended S.contents (noted number text.now) self.old result self.new }
         ensures text { Grows S.contents (noted number text.now) self.old result self.new }
