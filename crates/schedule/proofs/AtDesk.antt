@@ -15,9 +15,8 @@ use Rattle.listing.specs.declared.output.Output.{Output}
 use Rattle.listing.specs.Outputs.{held}
 use Rattle.schedule.specs.declared.desk.Pair.{Pair}
 use Rattle.schedule.specs.Answers.{tell}
-use Rattle.schedule.specs.Desks.{Board, board_tells, limit_of, pair_for, tell_at, with_lock}
+use Rattle.schedule.specs.Desks.{Board, board_tells, limit_of, with_lock}
 use Rattle.schedule.specs.Lists.{ListsInto, ListsOn}
-use Rattle.schedule.specs.Progress.{Progress}
 use Rattle.std.specs.Prelude.{MatchResult}
 use Rattle.schedule.proofs.Runs.{all_keep, lists_seen}
 

@@ -1,5 +1,5 @@
 -- What a lock over the cache layer on a store tells, call by call.
-use Rattle.std.proofs.Common.{◌≡◌, ℕ, List, length, Ok, Err, Result, refl, ap, ◌∙◌}
+use Rattle.std.proofs.Common.{◌≡◌, ℕ, List, length, Result, refl, ap, ◌∙◌}
 use Rattle.cache.specs.declared.layer.Cache.{Cache}
 use Rattle.cache.specs.Layers.{cached}
 use Rattle.queue.specs.declared.interface.Queue.{Ghosts as QueueGhosts}
@@ -8,7 +8,7 @@ use Rattle.calls.specs.Steps as calls
 use Rattle.lock.specs.declared.locks.Lock.{Lock}
 use Rattle.lock.specs.ByTask.{Follows, Plan, ends, makes, once}
 use Rattle.lock.specs.Counted.{Counted}
-use Rattle.lock.specs.Exact.{exact_opening, followed, seen}
+use Rattle.lock.specs.Exact.{seen}
 use Rattle.lock.specs.View.{Does, Opened}
 use Rattle.lock.proofs.Answering.{stored}
 use Rattle.lock.proofs.Exactly.{follows_exactly, opens_to}

@@ -8,7 +8,7 @@ use Rattle.script.specs.declared.refusal.Refusal.TheVariants.{Length}
 use Rattle.schedule.specs.declared.refusal.Refusal.{Refusal}
 use Rattle.schedule.specs.Desks.{Board}
 use Rattle.schedule.specs.Laws.{IsQuiet, Numbered, Prefix, QuietLines, Undisturbed}
-use Rattle.schedule.specs.Listing.{numbered, reply_bytes, whole_refused}
+use Rattle.schedule.specs.Listing.{reply_bytes, whole_refused}
 use Rattle.schedule.specs.Meaning.{first_board, listed, listing}
 use Rattle.schedule.specs.Replies.{Heard, board_after, nothing, noting, replied, replies}
 

@@ -24,10 +24,9 @@ pub(crate) fn obey<'s, V: Serve>(server: &mut V, text: &'s [u8]) -> Result<Reply
     ensures obeys { Obeyed V.serves server.old (parse text.now) (heard_so result) server.new }
     ensures within { IfOk result (λ r. IsWithin (length text.now) (heard r)) }
 {
-    match parse_line(text) {
-        Ok(Line::Blank) => Ok(Reply::Nothing),
-        Ok(Line::Note(note)) => Ok(Reply::Note(note)),
-        Ok(Line::Call(call)) => Ok(Reply::Answered(server.answer(call)?)),
-        Err(why) => Err(Refusal::Line(why)),
+    match parse_line(text)? {
+        Line::Blank => Ok(Reply::Nothing),
+        Line::Note(note) => Ok(Reply::Note(note)),
+        Line::Call(call) => Ok(Reply::Answered(server.answer(call)?)),
     }
 }

@@ -1,9 +1,9 @@
-use Rattle.std.proofs.Common.{ap, subst}
+use Rattle.std.proofs.Common.{subst}
 use Rattle.std.proofs.lemmas.Result.{MatchResult-from_err, MatchResult-weaker}
 use Rattle.listing.specs.Outputs.{held}
 use Rattle.streams.proofs.Passed.{cut_behind}
 use Rattle.schedule.specs.Lists.{ListsOn}
-use Rattle.schedule.specs.Progress.{Progress, progress, told}
+use Rattle.schedule.specs.Progress.{progress}
 use Rattle.schedule.proofs.Printed.{all_done, all_printed, none_done, part_done, part_printed, whole_printed, written_too}
 use Rattle.schedule.proofs.Runs.{on_more}
 use Rattle.schedule.proofs.schedule.Schedule.print.Goals as goal
