@@ -1,5 +1,5 @@
 // Lines that an output holds.
-ghost use Rattle.std.specs.Prelude.{◌≡◌, ◌+◌, ◌≤◌, [], false, length, IsOk};
+ghost use Rattle.std.specs.Prelude.{◌≡◌, ◌+◌, ◌≤◌, [], false, true, length, IsErr, IsOk};
 ghost use Rattle.listing.specs.Listing.{noted, shown};
 ghost use Rattle.listing.specs.Outputs.{Holds, full, held};
 
@@ -36,6 +36,7 @@ impl<S> Output<S> {
     pub fn hold_answer(&mut self, number: u32, answer: Answer) -> Result<(), Refusal>
         ensures holds { Holds (shown number answer) self.old result self.new }
         ensures fits { full self.old ≡ false → IsOk result }
+        ensures full { full self.old ≡ true → IsErr result }
     {
         let at = self.count;
         if at > FULL {
@@ -50,6 +51,7 @@ impl<S> Output<S> {
     pub fn hold_note(&mut self, number: u32, text: &[u8]) -> Result<(), Refusal>
         ensures holds { Holds (noted number text.now) self.old result self.new }
         ensures fits { full self.old ≡ false → self.old.count + length (noted number text.now) ≤ 4096 → IsOk result }
+        ensures full { full self.old ≡ true → IsErr result }
     {
         let at = self.count;
         if at > FULL {

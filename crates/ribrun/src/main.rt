@@ -17,8 +17,8 @@ use schedule::schedule::Schedule;
 use std::io;
 use streams::sink::Sink;
 
-// Prints the listing of a schedule, its calls made at a desk over rows that nobody has measured, 16 for each lock. The listing
-// is what was written, and no more; where a write fails it is a front of the listing.
+// Prints the listing of a schedule, its calls made at a desk over rows that nobody has measured, 16 for each lock. What the
+// output held and then the listing is written, and no more; where a write fails it is a front of that.
 fn list<S: Sink>(input: &[u8], out: &mut Output<S>) -> Result<(), S::Error>
     ensures { Writes (held out.old ++ listing input.now) (S.contents out.old.sink) (S.contents out.new.sink) result }
 {

@@ -8,11 +8,11 @@ use queue::ring::Ring;
 use script::call::{MemoryKind, QueueKind};
 use words::array::Words;
 
-/// A memory and a queue.
+// A memory and a queue.
 #[derive(Clone, Copy)]
-pub struct Pair {
-    pub memory: MemoryKind,
-    pub queue: QueueKind,
+pub(crate) struct Pair {
+    pub(crate) memory: MemoryKind,
+    pub(crate) queue: QueueKind,
 }
 
 // Four locks, and the pair that was chosen.

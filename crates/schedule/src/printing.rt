@@ -103,8 +103,8 @@ impl Schedule<'_, '_, '_> {
         }
     }
 
-    /// Does all lines that are left, and writes all that is left of the listing; where a write fails a front of that is
-    /// written, and no other byte, and the error is the sink's.
+    /// Does all lines that are left, and writes what the output holds and then all that is left of the listing; where a write
+    /// fails a front of these bytes is written, and no other byte, and the error is the sink's.
     pub fn print<S: Sink>(&mut self, out: &mut Output<S>) -> Result<(), S::Error>
         ensures prints { Prints S.contents self.old out.old result self.new out.new }
         ensures same { SameDesk self.old self.new }

@@ -6,7 +6,7 @@ use std::io;
 use std::io::{ErrorKind, Read, Write};
 use std::test::Fail;
 
-// Takes, or gives, three bytes at a time. The second and the third try are interrupted, and the one numbered `fails` fails.
+// Takes, or gives, three bytes at a time. From the second on, 1,000 tries are interrupted, and the one numbered `fails` fails.
 #[derive(Drop)]
 struct Shaky<'a> {
     given: &'a [u8],
@@ -23,7 +23,7 @@ impl Shaky<'_> {
         if self.tries == self.fails {
             return Err(io::Error::from(ErrorKind::NotConnected));
         }
-        if self.tries == 2 || self.tries == 3 {
+        if self.tries >= 2 && self.tries <= 1001 {
             return Err(io::Error::from(ErrorKind::Interrupted));
         }
         Ok(())
@@ -80,7 +80,7 @@ fn kind_of<T: Drop>(told: io::Result<T>) -> Option<ErrorKind> {
 fn an_interrupted_write_is_tried_again(rt: HostRuntime) -> Result<(), Fail> {
     let mut out = one_that(0);
     write_all(&mut out, TEXT)?;
-    assert_eq!(rt; out.tries, 6);
+    assert_eq!(rt; out.tries, 1004);
     assert_eq!(rt; out.count, 10);
     assert_eq!(rt; &out.taken[..10], TEXT);
     Ok(())
@@ -88,7 +88,7 @@ fn an_interrupted_write_is_tried_again(rt: HostRuntime) -> Result<(), Fail> {
 
 #[test]
 fn a_write_that_fails_is_told_as_it_is(rt: HostRuntime) {
-    let mut out = one_that(5);
+    let mut out = one_that(1003);
     assert_eq!(rt;
         kind_of(write_all(&mut out, TEXT)),
         Some(ErrorKind::NotConnected)
@@ -115,7 +115,7 @@ fn an_interrupted_read_is_tried_again(rt: HostRuntime) -> Result<(), Fail> {
     let mut room = [0; 16];
     let mut source = one_that(0);
     assert_eq!(rt; fill(&mut source, &mut room)?, 10);
-    assert_eq!(rt; source.tries, 7);
+    assert_eq!(rt; source.tries, 1005);
     assert_eq!(rt; &room[..10], TEXT);
     let mut source = one_that(0);
     assert_eq!(rt; fill(&mut source, &mut room[..5])?, 5);
@@ -128,7 +128,7 @@ fn an_interrupted_read_is_tried_again(rt: HostRuntime) -> Result<(), Fail> {
 fn a_read_that_fails_is_told_as_it_is(rt: HostRuntime) {
     let mut room = [0; 16];
     assert_eq!(rt;
-        kind_of(fill(&mut one_that(5), &mut room)),
+        kind_of(fill(&mut one_that(1003), &mut room)),
         Some(ErrorKind::NotConnected)
     );
     assert_eq!(rt; &room[..7], &b"ten by\0"[..]);
