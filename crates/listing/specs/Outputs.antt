@@ -1,6 +1,5 @@
 -- What an output means: the bytes that its sink has taken, and behind them those that it holds.
-use Rattle.std.specs.Prelude.{◌≡◌, ℕ, Bool, List, ◌++◌, take, MatchResult, OnOk, Option, Result, nat_lt}
-use Rattle.std.specs.Io.KnownBytes.{Appends, append_known}
+use Rattle.std.specs.Prelude.{◌≡◌, ℕ, Bool, List, ◌++◌, take, MatchResult, Option, Result, nat_lt}
 use Rattle.streams.specs.Streams.{Cut, Passed}
 use Rattle.listing.specs.declared.output.Output.{Output}
 use Rattle.listing.specs.declared.refusal.Refusal.{Refusal}
@@ -18,10 +17,6 @@ abbrev pub Holds : {S : Type 0} → List ℕ → Output S → Result (Unit {0}) 
 Holds bytes o r p = (p.sink ≡ o.sink) × MatchResult r (λ _. held p ≡ held o ++ bytes) (λ _. (held p ≡ held o) × (p.count ≡ o.count))
 
 module _ {S : Type 0} (contents : S → Option (List ℕ)) where
-  -- the bytes that are written, and those that are held
-  abbrev pub text : Output S → Option (List ℕ)
-  text o = append_known (contents o.sink) (held o)
-
   -- the bytes came behind those that were held, of which a part is written, which leads from o to p; where that failed a
   -- front of them all was written, and no other byte
   abbrev pub Appended : {T E : Type 0} → List ℕ → Output S → Result T E → Output S → Type 0
@@ -29,7 +24,3 @@ module _ {S : Type 0} (contents : S → Option (List ℕ)) where
       MatchResult r
       (λ _. Passed (held o ++ bytes) (contents o.sink) (held p) (contents p.sink))
       (λ _. Cut (held o ++ bytes) (contents o.sink) (contents p.sink))
-
-  -- what an output means grew by the bytes, unless that failed
-  abbrev pub Grows : {T E : Type 0} → List ℕ → Output S → Result T E → Output S → Type 0
-  Grows bytes o r p = OnOk r (Appends (text o) (text p) bytes)

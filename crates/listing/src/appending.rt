@@ -3,7 +3,7 @@
 ghost use Rattle.std.specs.Prelude.{◌≡◌, ◌≤◌, [], false, OnErr, OnOk};
 ghost use Rattle.streams.specs.Streams.{Writes};
 ghost use Rattle.listing.specs.Listing.{noted, shown};
-ghost use Rattle.listing.specs.Outputs.{Appended, Grows, full, held};
+ghost use Rattle.listing.specs.Outputs.{Appended, full, held};
 
 use crate::answer::Answer;
 use crate::output::Output;
@@ -41,7 +41,7 @@ impl<S: Sink> Output<S> {
     // Writes what is held, what the line of the note begins with, and the note. The end of its line is held.
     #[cold]
     fn write_note(&mut self, number: u32, text: &[u8]) -> Result<(), S::Error>
-        requires { self.old.count ≤ 4032 }
+        requires { full self.old ≡ false }
         ensures appended { Appended S.contents (noted number text.now) self.old result self.new }
         ensures lost { OnErr result (held self.new ≡ []) }
     {
@@ -57,7 +57,6 @@ impl<S: Sink> Output<S> {
     #[inline(never)]
     pub fn put_note(&mut self, number: u32, text: &[u8]) -> Result<(), S::Error>
         ensures appended { Appended S.contents (noted number text.now) self.old result self.new }
-        ensures text { Grows S.contents (noted number text.now) self.old result self.new }
         ensures lost { OnErr result (held self.new ≡ []) }
     {
         self.make_room()?;
@@ -70,7 +69,6 @@ impl<S: Sink> Output<S> {
     /// Appends the line `number` of the listing, for a call that gave `answer`. The error is the sink's.
     pub fn put_answer(&mut self, number: u32, answer: Answer) -> Result<(), S::Error>
         ensures appended { Appended S.contents (shown number answer) self.old result self.new }
-        ensures text { Grows S.contents (shown number answer) self.old result self.new }
         ensures lost { OnErr result (held self.new ≡ []) }
     {
         self.make_room()?;

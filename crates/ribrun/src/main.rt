@@ -1,7 +1,7 @@
 // ribrun: reads a schedule from standard input, and prints its listing.
 #![tactic(auto)]
 
-ghost use Rattle.std.specs.Prelude.{◌++◌};
+ghost use Rattle.std.specs.Prelude.{◌≡◌, ◌++◌, []};
 ghost use Rattle.listing.specs.Outputs.{held};
 ghost use Rattle.schedule.specs.Meaning.{listing};
 ghost use Rattle.streams.specs.Streams.{Writes};
@@ -18,9 +18,10 @@ use std::io;
 use streams::sink::Sink;
 
 // Prints the listing of a schedule, its calls made at a desk over rows that nobody has measured, 16 for each lock. What the
-// output held and then the listing is written, and no more; where a write fails it is a front of that.
+// output held and then the listing is written, and no more; where a write fails it is a front of that. No byte is held then.
 fn list<S: Sink>(input: &[u8], out: &mut Output<S>) -> Result<(), S::Error>
-    ensures { Writes (held out.old ++ listing input.now) (S.contents out.old.sink) (S.contents out.new.sink) result }
+    ensures writes { Writes (held out.old ++ listing input.now) (S.contents out.old.sink) (S.contents out.new.sink) result }
+    ensures empty { held out.new ≡ [] }
 {
     let (mut a, mut b, mut c, mut d) = ([0; 16], [0; 16], [0; 16], [0; 16]);
     let mut desk = Desk::new(&mut a, &mut b, &mut c, &mut d);

@@ -1,59 +1,81 @@
 -- All that is left of a listing, printed part by part.
-use Rattle.std.proofs.Common.{◌≡◌, ℕ, ◌+◌, List, [], ◌∷◌, ◌++◌, length, Some, None, Option, sym, refl, ap, ◌∙◌, subst, add-zero}
+use Rattle.std.proofs.Common.{◌≡◌, ℕ, ◌+◌, List, [], ◌∷◌, ◌++◌, length, IsErr, OnErr, Some, None, Ok, Err, Option, Result, sym, refl, ap, ◌∙◌, subst, add-zero}
 use Rattle.std.proofs.lemmas.List.{append-nil, append_assoc}
+use Rattle.std.proofs.lemmas.Result.{MatchResult-from_err}
 use Rattle.std.specs.Io.KnownBytes.{Appends}
 use Rattle.script.specs.Calls.{parse}
-use Rattle.streams.specs.Streams.{Cut, Passed}
-use Rattle.streams.proofs.Passed.{appends_more, cut_before, passed_before, passed_from, passed_more}
+use Rattle.script.specs.declared.refusal.Refusal.{Refusal as LineRefusal}
+use Rattle.script.specs.Reading.{to_come}
+use Rattle.listing.specs.declared.output.Output.{Output}
+use Rattle.listing.specs.Outputs.{Appended, held}
+use Rattle.streams.specs.Streams.{Cut, Passed, Writes}
+use Rattle.streams.proofs.Passed.{cut_before, passed_all, passed_from, passed_more}
+use Rattle.schedule.specs.declared.schedule.Schedule.{Schedule}
 use Rattle.schedule.specs.Listing.{reply_bytes}
-use Rattle.schedule.specs.Lists.{ListsOn}
+use Rattle.schedule.specs.Lists.{HeldOrLost, ListsOn, Prints}
 use Rattle.schedule.specs.Meaning.{listed}
-use Rattle.schedule.specs.Progress.{PartDone, Progress, after, next, next_line, to_print, told, untold_bytes}
+use Rattle.schedule.specs.Progress.{Progress, after, bytes_of, next, next_line, progress, untold_bytes, whole_told}
 use Rattle.schedule.specs.Replies.{board_after, replied}
-use Rattle.schedule.proofs.WholeListing.{listed_parts}
+use Rattle.schedule.proofs.Runs.{passed_none}
+use Rattle.schedule.proofs.WholeListing.{bytes_parts}
 
 -- the next line of one that is told, where a line is left
 pub next_is : (p : Progress) (l : List ℕ) (ls : List (List ℕ)) → p.untold ≡ None → p.left ≡ l ∷ ls → next p ≡ (Some (reply_bytes (p.number + 1) (replied (parse l) p.board).0), after (l ∷ []) ls p)
 next_is p l ls u left = λ i. next_line (u i) (left i) p
 
--- the rest is written too
-pub written_too : (all rest : List ℕ) (a b c : Option (List ℕ)) → Passed all a rest b → Appends b c rest → Appends a c all
-written_too all rest a b c passed wrote = subst (Appends a c) (sym passed.whole) (appends_more a b c passed.written rest passed.wrote wrote)
+-- why the input is refused is told through an output, and no line is done
+module _ {K : Type 0} (contents : K → Option (List ℕ)) (p : Progress) (untold : Option LineRefusal) (told : untold ≡ None) (o k : Output K) where
+  whole_listed : (rest : List ℕ) → Passed (held o ++ untold_bytes p.untold) (contents o.sink) rest (contents k.sink) →
+      ListsOn p (held o) (contents o.sink) (record { untold = untold; number = p.number; left = p.left; board = p.board }) rest (contents k.sink)
+  whole_listed rest passed = record {
+    done = [];
+    left = p.left;
+    lines = refl;
+    progress = λ i. record { untold = told i; number = sym (add-zero p.number) i; left = p.left; board = p.board };
+    passed = passed_from _ _ rest _ _ (ap (λ z. held o ++ z) (sym (append-nil (untold_bytes p.untold)))) passed;
+  }
 
-module _ (p : Progress) (h : List ℕ) where
-  abbrev whole : List ℕ
-  whole = untold_bytes p.untold
+  pub whole_into : {E : Type 0} (r : Result (Unit {0}) E) → Appended contents (untold_bytes p.untold) o r k → OnErr r (held k ≡ []) →
+      (rest : List ℕ) × ListsOn p (held o) (contents o.sink) (record { untold = untold; number = p.number; left = p.left; board = p.board }) rest (contents k.sink) × HeldOrLost r rest k
+  whole_into (Ok u) passed lost = (held k, whole_listed (held k) passed, refl)
+  whole_into (Err e) (rest, passed) lost = (rest, whole_listed rest passed, lost)
 
-  -- what was told before the lines, and lines then
-  lines_too : (q : Progress) (m rest : List ℕ) (a b c : Option (List ℕ)) → Passed (h ++ whole) a m b → (on : ListsOn (told p) m b q rest c) → Passed (h ++ (whole ++ listed p.number p.board on.done)) a rest c
-  lines_too q m rest a b c first on =
-      let lines = listed p.number p.board on.done in
-      passed_from _ _ rest a c (append_assoc h whole lines) (passed_more ((h ++ whole) ++ lines) (m ++ lines) rest a b c (passed_before (h ++ whole) lines m a b first) on.passed)
+-- and where nothing is to be told
+pub nothing_listed : {K : Type 0} (contents : K → Option (List ℕ)) (p : Progress) (untold : Option LineRefusal) → untold ≡ None → p.untold ≡ None → (o : Output K) →
+    (rest : List ℕ) × ListsOn p (held o) (contents o.sink) (record { untold = untold; number = p.number; left = p.left; board = p.board }) rest (contents o.sink) × (held o ≡ rest)
+nothing_listed contents p untold told none o =
+    let a = contents o.sink in
+    whole_into contents p untold told o o {E = Unit {0}} (Ok tt) (subst (λ u. Passed (held o ++ untold_bytes u) a (held o) a) (sym none) (passed_none (held o) a)) tt
 
-  pub part_done : (q : Progress) (m rest : List ℕ) (b c : Option (List ℕ)) → ListsOn (told p) m b q rest c → PartDone p q
-  part_done q m rest b c on = (on.done, on.left, on.lines, on.progress)
+-- a front of all that is left
+cut_printed : (p q : Progress) (before rest : List ℕ) (a c : Option (List ℕ)) → ListsOn p before a q rest c → Cut (before ++ bytes_of p.left p) a c
+cut_printed p q before rest a c on =
+    let tail = listed (p.number + length on.done) (board_after p.board on.done) on.left in
+    let all : (before ++ bytes_of on.done p) ++ tail ≡ before ++ bytes_of p.left p = append_assoc before (bytes_of on.done p) tail ∙ ap (λ z. before ++ z) (bytes_parts p on.done on.left ∙ ap (λ ls. bytes_of ls p) (sym on.lines)) in
+    subst (λ z. Cut z a c) all (cut_before (before ++ bytes_of on.done p) tail a c (rest, on.passed))
 
-  -- no line is left
-  pub all_done : (q : Progress) (m rest : List ℕ) (b c : Option (List ℕ)) (on : ListsOn (told p) m b q rest c) → q.left ≡ [] → (on.done ≡ p.left) × (q ≡ after p.left [] (told p))
-  all_done q m rest b c on none =
+module _ {K E : Type 0} (contents : K → Option (List ℕ)) (s t : Schedule) (o k : Output K) where
+  -- a write failed
+  pub prints_failed : (r : Result (Unit {0}) E) (rest : List ℕ) → IsErr r → ListsOn (progress s) (held o) (contents o.sink) (progress t) rest (contents k.sink) → held k ≡ [] → Prints contents s o r t k
+  prints_failed r rest fails on lost = record {
+    writes = MatchResult-from_err r _ _ fails (λ e. cut_printed (progress s) (progress t) (held o) rest _ _ on);
+    progress = MatchResult-from_err r _ _ fails (λ e. (rest, on, MatchResult-from_err r _ _ fails (λ e. lost)));
+    empty = lost;
+  }
+
+  -- no line is left, and what is held is written
+  pub prints_all : (b : Option (List ℕ)) (kept rest : List ℕ) (r : Result (Unit {0}) E) → ListsOn (progress s) (held o) (contents o.sink) (progress t) rest b → kept ≡ rest → to_come t.reader ≡ [] → Writes kept b (contents k.sink) r → held k ≡ [] →
+      Prints contents s o r t k
+  prints_all b kept rest (Err e) on is none (more, cut) empty =
+      let passed = passed_more _ rest more _ b _ on.passed (passed_from rest kept more b _ is cut) in
+      prints_failed (Err e) more refl (record { done = on.done; left = on.left; lines = on.lines; progress = on.progress; passed = passed }) empty
+  prints_all b kept rest (Ok u) on is none wrote empty =
+      let p = progress s in
       let left : on.left ≡ [] = ap (λ (x : Progress). x.left) (sym on.progress) ∙ none in
       let done : on.done ≡ p.left = sym (append-nil on.done) ∙ ap (λ z. on.done ++ z) (sym left) ∙ sym on.lines in
-      (done, on.progress ∙ (λ i. after (done i) (left i) (told p)))
-
-  pub all_printed : (q : Progress) (m rest : List ℕ) (a b c : Option (List ℕ)) → Passed (h ++ whole) a m b → ListsOn (told p) m b q rest c → q.left ≡ [] → Passed (h ++ to_print p) a rest c
-  all_printed q m rest a b c first on none = subst (λ ls. Passed (h ++ (whole ++ listed p.number p.board ls)) a rest c) (all_done q m rest b c on none).0 (lines_too q m rest a b c first on)
-
-  pub part_printed : (q : Progress) (m rest : List ℕ) (a b c : Option (List ℕ)) → Passed (h ++ whole) a m b → ListsOn (told p) m b q rest c → Cut (h ++ to_print p) a c
-  part_printed q m rest a b c first on =
-      let lines = listed p.number p.board on.done in
-      let tail = listed (p.number + length on.done) (board_after p.board on.done) on.left in
-      let all : listed p.number p.board p.left ≡ lines ++ tail = ap (listed p.number p.board) on.lines ∙ listed_parts p.number p.board on.done on.left in
-      let bytes : (h ++ (whole ++ lines)) ++ tail ≡ h ++ to_print p = append_assoc h (whole ++ lines) tail ∙ ap (λ z. h ++ z) (append_assoc whole lines tail) ∙ ap (λ z. h ++ (whole ++ z)) (sym all) in
-      subst (λ z. Cut z a c) bytes (cut_before (h ++ (whole ++ lines)) tail a c (rest, lines_too q m rest a b c first on))
-
-  -- not even the lines were begun
-  pub whole_printed : (a c : Option (List ℕ)) → Cut (h ++ whole) a c → Cut (h ++ to_print p) a c
-  whole_printed a c cut = let lines = listed p.number p.board p.left in subst (λ z. Cut z a c) (append_assoc h whole lines) (cut_before (h ++ whole) lines a c cut)
-
-  pub none_done : (q : Progress) → q ≡ told p → PartDone p q
-  none_done q is = ([], p.left, refl, is ∙ (λ i. record { untold = None; number = sym (add-zero p.number) i; left = p.left; board = p.board }))
+      let passed = passed_more _ rest [] _ b _ on.passed (record { written = rest; whole = sym (append-nil rest); wrote = subst (Appends b (contents k.sink)) is wrote }) in
+      record {
+        writes = subst (λ ls. Appends (contents o.sink) (contents k.sink) (held o ++ bytes_of ls p)) done (passed_all _ [] _ _ passed refl);
+        progress = on.progress ∙ (λ i. after (done i) (left i) (whole_told p));
+        empty = empty;
+      }

@@ -1,15 +1,15 @@
 -- The laws of whole schedules.
-use Rattle.std.proofs.Common.{◌≡◌, ℕ, suc, ◌+◌, ◌≤◌, cond, eqb, List, [], ◌∷◌, ◌++◌, length, Ok, Result, sym, refl, ap, ◌∙◌, inl, inr, add-zero, zero-add, arith}
+use Rattle.std.proofs.Common.{◌≡◌, ℕ, suc, ◌+◌, ◌≤◌, cond, eqb, List, [], ◌∷◌, ◌++◌, length, Ok, sym, refl, ap, ◌∙◌, inl, inr, add-zero, zero-add, arith}
 use Rattle.std.proofs.lemmas.Bool.{cases_Bool, le-leb, ne_eqb}
 use Rattle.std.proofs.lemmas.List.{append_assoc}
 use Rattle.script.specs.Calls.{arguments, blank, call, called, note, over, parse}
 use Rattle.script.specs.Cuts.{lines, onto}
 use Rattle.script.specs.declared.refusal.Refusal.TheVariants.{Length}
-use Rattle.schedule.specs.declared.refusal.Refusal.{Refusal}
 use Rattle.schedule.specs.Desks.{Board}
 use Rattle.schedule.specs.Laws.{IsQuiet, Numbered, Prefix, QuietLines, Undisturbed}
 use Rattle.schedule.specs.Listing.{reply_bytes, whole_refused}
 use Rattle.schedule.specs.Meaning.{first_board, listed, listing}
+use Rattle.schedule.specs.Progress.{Progress, bytes_of, untold_bytes}
 use Rattle.schedule.specs.Replies.{Heard, board_after, nothing, noting, replied, replies}
 
 short_listing : (input : List ℕ) → length input ≤ 65536 → listing input ≡ listed 0 first_board (lines input)
@@ -54,6 +54,10 @@ listed_parts n b (l ∷ ls) ms =
     one_on : (n k : ℕ) → n + 1 + k ≡ n + suc k
     one_on n k = omega arith
 
+-- the bytes of lines that are done next, and of others behind them
+pub bytes_parts : (p : Progress) (ls ms : List (List ℕ)) → bytes_of ls p ++ listed (p.number + length ls) (board_after p.board ls) ms ≡ bytes_of (ls ++ ms) p
+bytes_parts p ls ms = append_assoc (untold_bytes p.untold) (listed p.number p.board ls) _ ∙ ap (λ z. untold_bytes p.untold ++ z) (sym (listed_parts p.number p.board ls ms))
+
 pub after_parts : (b : Board) (ls ms : List (List ℕ)) → board_after b (ls ++ ms) ≡ board_after (board_after b ls) ms
 after_parts b [] ms = refl
 after_parts b (l ∷ ls) ms = after_parts (replied (parse l) b).1 ls ms
@@ -77,11 +81,11 @@ note_read text =
     ap (λ b. cond b (Ok blank) others) (ne_eqb (length (35 ∷ text)) 0 (λ e. omega arith))
 
 pub are_quiet : QuietLines
-are_quiet = record { empty = (Ok nothing, λ b. refl); noted = λ text. (Ok (noting (35 ∷ text)), λ b. ap (λ s. replied s b) (note_read text)) }
+are_quiet = record { empty = (nothing, λ b. refl); noted = λ text. (noting (35 ∷ text), λ b. ap (λ s. replied s b) (note_read text)) }
 
-undisturbed_at : (b : Board) (before after : List (List ℕ)) (l : List ℕ) (r : Result Heard Refusal) → IsQuiet l r →
-    (first later : List (Result Heard Refusal)) × (replies b (before ++ after) ≡ first ++ later) × (replies b (before ++ l ∷ after) ≡ first ++ r ∷ later) × (length first ≡ length before)
-undisturbed_at b [] after l r quiet = ([], replies b after, refl, ap (λ (z : Result Heard Refusal × Board). z.0 ∷ replies z.1 after) (quiet b), refl)
+undisturbed_at : (b : Board) (before after : List (List ℕ)) (l : List ℕ) (r : Heard) → IsQuiet l r →
+    (first later : List Heard) × (replies b (before ++ after) ≡ first ++ later) × (replies b (before ++ l ∷ after) ≡ first ++ r ∷ later) × (length first ≡ length before)
+undisturbed_at b [] after l r quiet = ([], replies b after, refl, ap (λ (z : Heard × Board). z.0 ∷ replies z.1 after) (quiet b), refl)
 undisturbed_at b (x ∷ before) after l r quiet =
     let (first, later, without, with, count) = undisturbed_at (replied (parse x) b).1 before after l r quiet in
     let own = (replied (parse x) b).0 in

@@ -1,5 +1,5 @@
 -- What the locks of a desk are: a board, which tells the pair of memory and queue that was chosen, and each lock as calls see it.
-use Rattle.std.specs.Borrow.{MutBor}
+use Rattle.std.specs.Borrow.{GName, MutBor}
 use Rattle.std.specs.Prelude.{◌≡◌, ℕ, false, cond, is_ok, List, [], Some, None, Err, Option, Result}
 use Rattle.memory.specs.declared.interface.Memory.{Ghosts as MemoryGhosts}
 use Rattle.memory.specs.Cells.{zeros}
@@ -107,22 +107,19 @@ board l =
       packed_masks = seen packed masks l.packed_masks;
     }
 
--- over the tables that were lent to them
-pub record SameTables (l m : Locks) : Type 0 where
-  pub words_ring : m.words_ring.table.ghost_name ≡ l.words_ring.table.ghost_name
-  pub words_masks : m.words_masks.table.ghost_name ≡ l.words_masks.table.ghost_name
-  pub packed_ring : m.packed_ring.table.ghost_name ≡ l.packed_ring.table.ghost_name
-  pub packed_masks : m.packed_masks.table.ghost_name ≡ l.packed_masks.table.ghost_name
+-- the tables that were lent to them
+abbrev pub tables : Locks → GName × GName × GName × GName
+tables l = (l.words_ring.table.ghost_name, l.words_masks.table.ghost_name, l.packed_ring.table.ghost_name, l.packed_masks.table.ghost_name)
 
 -- the call a is made, which is told o and leaves the locks l as m
 abbrev pub LocksTell : Locks → Ask → Result Answer Refusal → Locks → Type 0
-LocksTell l a o m = ◌≡◌ {A = Result Answer Refusal × Board} (o, board m) (board_tells a (board l)) × SameTables l m
+LocksTell l a o m = ◌≡◌ {A = Result Answer Refusal × Board} (o, board m) (board_tells a (board l)) × (tables m ≡ tables l)
 
 -- the lock of the pair is given over to a call, which comes to o; which pair is chosen stays
 abbrev pub AtPair : Pair → Locks → (ℕ → Counted → Result Answer Refusal × Counted) → Result Answer Refusal → Locks → Type 0
 AtPair p l call o m =
     (let r = call (limit_of p.memory) (lock_of p.memory p.queue (board l)) in ◌≡◌ {A = Result Answer Refusal × Board} (o, board m) (r.0, with_lock p.memory p.queue r.1 l.chosen (board l)))
-    × SameTables l m
+    × (tables m ≡ tables l)
 
 abbrev pub PairTells : Pair → Locks → Ask → Result Answer Refusal → Locks → Type 0
 PairTells p l a o m = AtPair p l (λ limit x. tell limit a x) o m
@@ -131,9 +128,6 @@ abbrev pub PairOpens : Pair → Locks → List ℕ → Result ℕ Refusal → Lo
 PairOpens p l roles r m = AtPair p l (λ limit x. opened limit roles x) (opened_told r) m
 
 -- a desk over four lent tables
-pub record DeskOver (a b c e : MutBor (List ℕ)) (d : Desk) : Type 0 where
-  pub closed : board d.locks ≡ closed_board a.now b.now c.now e.now
-  pub first : d.locks.words_ring.table.ghost_name ≡ a.ghost_name
-  pub second : d.locks.words_masks.table.ghost_name ≡ b.ghost_name
-  pub third : d.locks.packed_ring.table.ghost_name ≡ c.ghost_name
-  pub fourth : d.locks.packed_masks.table.ghost_name ≡ e.ghost_name
+abbrev pub DeskOver : MutBor (List ℕ) → MutBor (List ℕ) → MutBor (List ℕ) → MutBor (List ℕ) → Desk → Type 0
+DeskOver a b c e d =
+    (board d.locks ≡ closed_board a.now b.now c.now e.now) × (tables d.locks ≡ (a.ghost_name, b.ghost_name, c.ghost_name, e.ghost_name))

@@ -1,8 +1,7 @@
 -- Laws of whole schedules.
-use Rattle.std.specs.Prelude.{◌≡◌, ℕ, ◌≤◌, List, [], ◌∷◌, ◌++◌, length, Result}
+use Rattle.std.specs.Prelude.{◌≡◌, ℕ, ◌≤◌, List, [], ◌∷◌, ◌++◌, length}
 use Rattle.script.specs.Calls.{parse}
 use Rattle.script.specs.Cuts.{lines}
-use Rattle.schedule.specs.declared.refusal.Refusal.{Refusal}
 use Rattle.schedule.specs.Desks.{Board}
 use Rattle.schedule.specs.Listing.{numbered}
 use Rattle.schedule.specs.Meaning.{first_board, listing}
@@ -17,16 +16,16 @@ abbrev pub Prefix : Type 0
 Prefix = (cut more : List ℕ) → length (cut ++ 10 ∷ more) ≤ 65536 → (rest : List ℕ) × (listing (cut ++ 10 ∷ more) ≡ listing (cut ++ 10 ∷ []) ++ rest)
 
 -- a line that is blank or a note
-abbrev pub IsQuiet : List ℕ → Result Heard Refusal → Type 0
+abbrev pub IsQuiet : List ℕ → Heard → Type 0
 IsQuiet l r = (b : Board) → replied (parse l) b ≡ (r, b)
 
 -- a blank line and a note are quiet
 pub record QuietLines : Type 0 where
-  pub empty : (r : Result Heard Refusal) × IsQuiet [] r
-  pub noted : (text : List ℕ) → (r : Result Heard Refusal) × IsQuiet (35 ∷ text) r
+  pub empty : (r : Heard) × IsQuiet [] r
+  pub noted : (text : List ℕ) → (r : Heard) × IsQuiet (35 ∷ text) r
 
 -- a quiet line changes no other answer: those before and after it are as they would be without it
 abbrev pub Undisturbed : Type 0
 Undisturbed =
-    (before after : List (List ℕ)) (l : List ℕ) (r : Result Heard Refusal) → IsQuiet l r →
-    (first later : List (Result Heard Refusal)) × (replies first_board (before ++ after) ≡ first ++ later) × (replies first_board (before ++ l ∷ after) ≡ first ++ r ∷ later) × (length first ≡ length before)
+    (before after : List (List ℕ)) (l : List ℕ) (r : Heard) → IsQuiet l r →
+    (first later : List Heard) × (replies first_board (before ++ after) ≡ first ++ later) × (replies first_board (before ++ l ∷ after) ≡ first ++ r ∷ later) × (length first ≡ length before)

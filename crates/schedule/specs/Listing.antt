@@ -1,25 +1,22 @@
 -- The bytes of a listing's lines.
-use Rattle.std.specs.Prelude.{ℕ, ◌+◌, List, [], ◌∷◌, ◌++◌, Err, Result}
+use Rattle.std.specs.Prelude.{ℕ, ◌+◌, List, [], ◌∷◌, ◌++◌}
 use Rattle.script.specs.declared.refusal.Refusal.{Refusal as LineRefusal}
+use Rattle.script.specs.Refusals.{refusal_number as line_number}
+use Rattle.listing.specs.declared.answer.Answer.TheVariants.{Refused}
 use Rattle.listing.specs.Listing.{shown, noted}
-use Rattle.schedule.specs.declared.refusal.Refusal.{Refusal}
-use Rattle.schedule.specs.declared.refusal.Refusal.TheVariants.{Line}
-use Rattle.schedule.specs.Replies.{Heard, nothing, noting, answering, told}
+use Rattle.schedule.specs.Replies.{Heard, nothing, noting, answering}
 
 -- the bytes of the line n, by what it came to
-abbrev pub heard_bytes : ℕ → Heard → List ℕ
-heard_bytes n nothing = []
-heard_bytes n (noting text) = noted n text
-heard_bytes n (answering a) = shown n a
-
-abbrev pub reply_bytes : ℕ → Result Heard Refusal → List ℕ
-reply_bytes n r = heard_bytes n (told r)
+abbrev pub reply_bytes : ℕ → Heard → List ℕ
+reply_bytes n nothing = []
+reply_bytes n (noting text) = noted n text
+reply_bytes n (answering a) = shown n a
 
 -- the bytes of all these, where n lines went before
-abbrev pub numbered : ℕ → List (Result Heard Refusal) → List ℕ
+abbrev pub numbered : ℕ → List Heard → List ℕ
 numbered n [] = []
-numbered n (r ∷ rs) = reply_bytes (n + 1) r ++ numbered (n + 1) rs
+numbered n (h ∷ hs) = reply_bytes (n + 1) h ++ numbered (n + 1) hs
 
 -- the one line of an input that is refused as a whole
 abbrev pub whole_refused : LineRefusal → List ℕ
-whole_refused e = reply_bytes 0 (Err (Line e))
+whole_refused e = shown 0 (Refused (line_number e))

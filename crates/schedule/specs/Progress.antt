@@ -1,19 +1,16 @@
 -- How far a schedule is run, and what is left of its listing.
-use Rattle.std.specs.Prelude.{◌≡◌, ℕ, ◌+◌, ◌<◌, ◌≤◌, cond, List, [], ◌∷◌, ◌++◌, length, Some, None, Ok, Err, MatchResult, Option, Result, nat_le}
+use Rattle.std.specs.Prelude.{◌≡◌, ℕ, ◌+◌, ◌<◌, ◌≤◌, cond, List, [], ◌∷◌, ◌++◌, length, Some, None, Ok, Err, Option, Result, nat_le}
 use Rattle.script.specs.declared.refusal.Refusal.{Refusal as LineRefusal}
 use Rattle.script.specs.declared.refusal.Refusal.TheVariants.{Length}
 use Rattle.script.specs.Calls.{parse}
 use Rattle.script.specs.Cuts.{lines}
 use Rattle.script.specs.Reading.{to_come}
-use Rattle.listing.specs.declared.output.Output.{Output}
 use Rattle.listing.specs.declared.refusal.Refusal.TheVariants.{Room}
-use Rattle.listing.specs.Outputs.{Appended, held}
 use Rattle.listing.specs.Written.{TookBytes}
-use Rattle.streams.specs.Streams.{Writes}
 use Rattle.schedule.specs.declared.refusal.Refusal.{Refusal}
 use Rattle.schedule.specs.declared.refusal.Refusal.TheVariants.{Listing}
 use Rattle.schedule.specs.declared.schedule.Schedule.{Schedule}
-use Rattle.schedule.specs.Desks.{Board, SameTables, board}
+use Rattle.schedule.specs.Desks.{Board, board, tables}
 use Rattle.schedule.specs.Listing.{reply_bytes, whole_refused}
 use Rattle.schedule.specs.Meaning.{listed}
 use Rattle.schedule.specs.Replies.{board_after, replied}
@@ -32,7 +29,7 @@ progress s = record { untold = s.untold; number = s.reader.number; left = to_com
 
 -- at the same desk, over the same tables
 abbrev pub SameDesk : Schedule → Schedule → Type 0
-SameDesk s t = (t.desk.ghost_name ≡ s.desk.ghost_name) × SameTables s.desk.now.locks t.desk.now.locks
+SameDesk s t = (t.desk.ghost_name ≡ s.desk.ghost_name) × (tables t.desk.now.locks ≡ tables s.desk.now.locks)
 
 -- before its first line: an input that is too long has no line
 abbrev pub begun : List ℕ → Board → Progress
@@ -44,25 +41,25 @@ abbrev pub after : List (List ℕ) → List (List ℕ) → Progress → Progress
 after done left p = record { untold = p.untold; number = p.number + length done; left = left; board = board_after p.board done }
 
 -- once it is told why the input is refused, if it is
-abbrev pub told : Progress → Progress
-told p = record { untold = None; number = p.number; left = p.left; board = p.board }
+abbrev pub whole_told : Progress → Progress
+whole_told p = record { untold = None; number = p.number; left = p.left; board = p.board }
 
 -- the bytes of the next line of the listing, or none where it is at its end, and how far it is then
 abbrev pub next_line : Option LineRefusal → List (List ℕ) → Progress → Option (List ℕ) × Progress
-next_line (Some e) ls p = (Some (whole_refused e), told p)
+next_line (Some e) ls p = (Some (whole_refused e), whole_told p)
 next_line None [] p = (None, p)
 next_line None (l ∷ ls) p = (Some (reply_bytes (p.number + 1) (replied (parse l) p.board).0), after (l ∷ []) ls p)
 
 abbrev pub next : Progress → Option (List ℕ) × Progress
 next p = next_line p.untold p.left p
 
--- the bytes of all that is left of the listing
+-- the bytes of what is left to be told of the input as a whole, and of these lines that are done next
 abbrev pub untold_bytes : Option LineRefusal → List ℕ
 untold_bytes None = []
 untold_bytes (Some e) = whole_refused e
 
-abbrev pub to_print : Progress → List ℕ
-to_print p = untold_bytes p.untold ++ listed p.number p.board p.left
+abbrev pub bytes_of : List (List ℕ) → Progress → List ℕ
+bytes_of done p = untold_bytes p.untold ++ listed p.number p.board done
 
 -- a line's bytes were asked for: the buffer d has the room, and took them, or all stays as it was
 abbrev pub GivesLine : Option (List ℕ) → List ℕ → Option ℕ → List ℕ → Type 0
@@ -74,18 +71,3 @@ GivesLine (Some bs) d (Some count) o = TookBytes d bs count o
 abbrev pub Gives : Schedule → List ℕ → Result (Option ℕ) Refusal → Schedule → List ℕ → Type 0
 Gives s d (Ok given) t o = (65552 ≤ length d) × GivesLine (next (progress s)).0 d given o × (progress t ≡ (next (progress s)).1)
 Gives s d (Err e) t o = (length d < 65552) × (e ≡ Listing Room) × (progress t ≡ progress s) × (o ≡ d)
-
--- some of the lines that were left are done
-abbrev pub PartDone : Progress → Progress → Type 0
-PartDone p q = (done : List (List ℕ)) × (left : List (List ℕ)) × (p.left ≡ done ++ left) × (q ≡ after done left (told p))
-
--- All that is left of the listing is written behind what was held, and all lines are done; where a write fails a front of that is
--- written, and some of the lines are done.
-abbrev pub Prints : {K E : Type 0} → (K → Option (List ℕ)) → Schedule → Output K → Result (Unit {0}) E → Schedule → Output K → Type 0
-Prints contents s o r t p =
-    Writes (held o ++ to_print (progress s)) (contents o.sink) (contents p.sink) r
-    × MatchResult r (λ _. (held p ≡ []) × (progress t ≡ after (to_come s.reader) [] (told (progress s)))) (λ _. PartDone (progress s) (progress t))
-
--- the reason why the whole input is refused, if there is one, is told behind what was held
-abbrev pub TellsWhole : {K E : Type 0} → (K → Option (List ℕ)) → Schedule → Output K → Result (Unit {0}) E → Schedule → Output K → Type 0
-TellsWhole contents s o r t p = Appended contents (untold_bytes s.untold) o r p × (progress t ≡ told (progress s))

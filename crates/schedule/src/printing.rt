@@ -1,10 +1,10 @@
 // The listing of a schedule, appended to an output.
 ghost use Rattle.std.specs.Prelude.{◌≡◌, ◌≤◌, ◌⊎◌, [], true, None, length, OnOk};
 ghost use Rattle.script.specs.Reading.{to_come};
-ghost use Rattle.schedule.specs.Lists.{IsOver, ListsInto, ListsOnInto};
-ghost use Rattle.schedule.specs.Progress.{Prints, SameDesk, TellsWhole};
+ghost use Rattle.schedule.specs.Lists.{IsOver, ListsInto, ListsOnInto, Prints};
+ghost use Rattle.schedule.specs.Progress.{SameDesk};
 
-use crate::replies::{Reply, obey};
+use crate::replies::{Reply, obey_line};
 use crate::schedule::Schedule;
 use crate::serving::Serve;
 use listing::answer::Answer;
@@ -31,16 +31,15 @@ fn list_lines<V: Serve, S: Sink>(
             return Ok(());
         };
         let number = reader.number() as u32;
-        let answer = match obey(server, text) {
-            Ok(Reply::Nothing) => continue,
-            Ok(Reply::Note(note)) => {
+        let answer = match obey_line(server, text) {
+            Reply::Nothing => continue,
+            Reply::Note(note) => {
                 if out.hold_note(number, note).is_err() {
                     out.put_note(number, note)?;
                 }
                 continue;
             }
-            Ok(Reply::Answered(answer)) => answer,
-            Err(why) => Answer::Refused(why.number()),
+            Reply::Answered(answer) => answer,
         };
         if out.is_full() {
             out.flush()?;
@@ -53,7 +52,8 @@ fn list_lines<V: Serve, S: Sink>(
 impl Schedule<'_, '_, '_> {
     // Tells why the whole input is refused, where that is to be told.
     fn tell_whole<S: Sink>(&mut self, out: &mut Output<S>) -> Result<(), S::Error>
-        ensures tells { TellsWhole S.contents self.old out.old result self.new out.new }
+        ensures lists { ListsOnInto S.contents self.old out.old result self.new out.new }
+        ensures told { self.new.untold ≡ None }
         ensures same { SameDesk self.old self.new }
     {
         let Some(why) = self.untold.take() else {
@@ -64,8 +64,10 @@ impl Schedule<'_, '_, '_> {
 
     // Does lines until none is left or a lock is chosen.
     fn list_unchosen<S: Sink>(&mut self, out: &mut Output<S>) -> Result<(), S::Error>
+        requires { self.old.untold ≡ None }
         ensures lists { ListsOnInto S.contents self.old out.old result self.new out.new }
         ensures over { OnOk result (IsOver self.new) }
+        ensures told { self.new.untold ≡ None }
         ensures same { SameDesk self.old self.new }
     {
         list_lines(&mut self.reader, &mut self.desk.locks, out)
@@ -73,7 +75,8 @@ impl Schedule<'_, '_, '_> {
 
     // Once a lock is chosen, does all lines that are left.
     fn list_chosen<S: Sink>(&mut self, out: &mut Output<S>) -> Result<(), S::Error>
-        requires { IsOver self.old }
+        requires told { self.old.untold ≡ None }
+        requires over { IsOver self.old }
         ensures lists { ListsOnInto S.contents self.old out.old result self.new out.new }
         ensures over { OnOk result (to_come self.new.reader ≡ []) }
         ensures same { SameDesk self.old self.new }
@@ -85,26 +88,15 @@ impl Schedule<'_, '_, '_> {
         };
         match (pair.memory, pair.queue) {
             (MemoryKind::Words, QueueKind::Ring) => list_lines(reader, &mut locks.words_ring, out),
-            (MemoryKind::Words, QueueKind::Masks) => list_lines(
-                reader,
-                &mut locks.words_masks,
-                out,
-            ),
-            (MemoryKind::Packed, QueueKind::Ring) => list_lines(
-                reader,
-                &mut locks.packed_ring,
-                out,
-            ),
-            (MemoryKind::Packed, QueueKind::Masks) => list_lines(
-                reader,
-                &mut locks.packed_masks,
-                out,
-            ),
+            (MemoryKind::Words, QueueKind::Masks) => list_lines(reader, &mut locks.words_masks, out),
+            (MemoryKind::Packed, QueueKind::Ring) => list_lines(reader, &mut locks.packed_ring, out),
+            (MemoryKind::Packed, QueueKind::Masks) => list_lines(reader, &mut locks.packed_masks, out),
         }
     }
 
     /// Does all lines that are left, and writes what the output holds and then all that is left of the listing; where a write
-    /// fails a front of these bytes is written, and no other byte, and the error is the sink's.
+    /// fails a front of these bytes is written, no byte of a line that is not done, and the error is the sink's. The output
+    /// then holds nothing, whatever comes of it.
     pub fn print<S: Sink>(&mut self, out: &mut Output<S>) -> Result<(), S::Error>
         ensures prints { Prints S.contents self.old out.old result self.new out.new }
         ensures same { SameDesk self.old self.new }

@@ -1,5 +1,5 @@
 // What a line of a schedule comes to.
-ghost use Rattle.std.specs.Prelude.{◌≡◌, false, length, IfOk};
+ghost use Rattle.std.specs.Prelude.{◌≡◌, false, length};
 ghost use Rattle.script.specs.Calls.{parse};
 ghost use Rattle.schedule.specs.Replies.{IsWithin, Obeyed, heard, heard_so};
 
@@ -19,14 +19,27 @@ pub(crate) enum Reply<'s> {
 
 // Does what the line says, and tells what it comes to. Refused: what the line refuses (40, 41, 42), and what the call does.
 #[inline(always)]
-pub(crate) fn obey<'s, V: Serve>(server: &mut V, text: &'s [u8]) -> Result<Reply<'s>, Refusal>
+fn obey<'s, V: Serve>(server: &mut V, text: &'s [u8]) -> Result<Reply<'s>, Refusal>
     requires { V.done server.old ≡ false }
     ensures obeys { Obeyed V.serves server.old (parse text.now) (heard_so result) server.new }
-    ensures within { IfOk result (λ r. IsWithin (length text.now) (heard r)) }
+    ensures within { IsWithin (length text.now) (heard_so result) }
 {
     match parse_line(text)? {
         Line::Blank => Ok(Reply::Nothing),
         Line::Note(note) => Ok(Reply::Note(note)),
         Line::Call(call) => Ok(Reply::Answered(server.answer(call)?)),
+    }
+}
+
+// The same, for a listing: there a refusal is one more answer.
+#[inline(always)]
+pub(crate) fn obey_line<'s, V: Serve>(server: &mut V, text: &'s [u8]) -> Reply<'s>
+    requires { V.done server.old ≡ false }
+    ensures obeys { Obeyed V.serves server.old (parse text.now) (heard result) server.new }
+    ensures within { IsWithin (length text.now) (heard result) }
+{
+    match obey(server, text) {
+        Ok(reply) => reply,
+        Err(why) => Reply::Answered(Answer::Refused(why.number())),
     }
 }

@@ -1,14 +1,14 @@
 // Running a schedule line by line. Each line of the listing is written at the start of a lent buffer.
-ghost use Rattle.std.specs.Prelude.{◌≡◌, ◌≤◌, length, IfOk};
+ghost use Rattle.std.specs.Prelude.{◌≡◌, ◌≤◌, length};
 ghost use Rattle.listing.specs.Written.{TookBytes};
 ghost use Rattle.schedule.specs.Desks.{board};
 ghost use Rattle.schedule.specs.Listing.{reply_bytes};
 ghost use Rattle.schedule.specs.Progress.{Gives, SameDesk, begun, progress};
-ghost use Rattle.schedule.specs.Replies.{IsWithin, heard, heard_so};
+ghost use Rattle.schedule.specs.Replies.{IsWithin, heard};
 
 use crate::desk::Desk;
 use crate::refusal::Refusal;
-use crate::replies::{Reply, obey};
+use crate::replies::{Reply, obey_line};
 use crate::schedule::Schedule;
 use listing::answer::Answer;
 use listing::write::{put_answer, put_note};
@@ -19,16 +19,15 @@ use script::reader::Reader;
 pub const ROOM: usize = 65552;
 
 // Writes the line `number` of the listing at the start of `out`, and tells how many bytes it has.
-fn put_reply(out: &mut [u8], number: u32, reply: Result<Reply<'_>, Refusal>) -> usize
+fn put_reply(out: &mut [u8], number: u32, reply: Reply<'_>) -> usize
     requires room { 65552 ≤ length out.old }
-    requires within { IfOk reply (λ r. IsWithin 65536 (heard r)) }
-    ensures { TookBytes out.old (reply_bytes number (heard_so reply.entry)) result out.new }
+    requires within { IsWithin 65536 (heard reply) }
+    ensures { TookBytes out.old (reply_bytes number (heard reply.entry)) result out.new }
 {
     match reply {
-        Ok(Reply::Nothing) => 0,
-        Ok(Reply::Note(text)) => put_note(out, number, text).unwrap(),
-        Ok(Reply::Answered(answer)) => put_answer(out, number, answer).unwrap(),
-        Err(why) => put_answer(out, number, Answer::Refused(why.number())).unwrap(),
+        Reply::Nothing => 0,
+        Reply::Note(text) => put_note(out, number, text).unwrap(),
+        Reply::Answered(answer) => put_answer(out, number, answer).unwrap(),
     }
 }
 
@@ -64,13 +63,13 @@ impl<'s, 'b, 'a> Schedule<'s, 'b, 'a> {
             return Err(Refusal::Listing(listing::refusal::Refusal::Room));
         }
         if let Some(why) = self.untold.take() {
-            return Ok(Some(put_reply(out, 0, Err(Refusal::Line(why)))));
+            let answer = Answer::Refused(why.number());
+            return Ok(Some(put_reply(out, 0, Reply::Answered(answer))));
         }
         let Some(text) = self.reader.next_line() else {
             return Ok(None);
         };
         let number = self.reader.number() as u32;
-        let reply = obey(&mut *self.desk, text);
-        Ok(Some(put_reply(out, number, reply)))
+        Ok(Some(put_reply(out, number, obey_line(&mut *self.desk, text))))
     }
 }

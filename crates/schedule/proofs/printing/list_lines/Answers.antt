@@ -1,9 +1,8 @@
-use Rattle.std.proofs.Common.{◌≡◌, ◌≤◌, ℕ, true, false, List, [], ◌++◌, length, is_err, Ok, Err, Option, Result, refl, sym, ap, ◌∙◌, subst, rules, arith}
+use Rattle.std.proofs.Common.{◌≡◌, ◌≤◌, ℕ, true, false, List, ◌++◌, length, is_err, Ok, Err, Option, Result, refl, sym, ap, ◌∙◌, subst, rules, arith}
 use Rattle.std.proofs.lemmas.Bool.{false≢true}
 use Rattle.std.proofs.lemmas.Result.{MatchResult-from_err}
 use Rattle.script.specs.declared.reader.Reader.{Reader}
 use Rattle.listing.specs.declared.output.Output.{Output}
-use Rattle.listing.specs.declared.answer.Answer.TheVariants.{Refused}
 use Rattle.listing.specs.declared.refusal.Refusal.{Refusal as ListingRefusal}
 use Rattle.listing.specs.Listing.{noted, shown}
 use Rattle.listing.specs.Outputs.{Appended, Holds, full, held}
@@ -11,14 +10,10 @@ use Rattle.streams.proofs.Passed.{cut_before, passed_before, passed_more}
 use Rattle.std.specs.Prelude.{MatchResult}
 use Rattle.streams.specs.Streams.{Cut, Passed}
 use Rattle.schedule.specs.Lists.{Lists}
-use Rattle.schedule.specs.declared.refusal.Refusal.{Refusal}
-use Rattle.schedule.specs.declared.replies.Reply.{Reply}
-use Rattle.schedule.specs.declared.replies.Reply.TheVariants.{Answered, Note, Nothing}
-use Rattle.schedule.specs.Listing.{heard_bytes, reply_bytes}
-use Rattle.schedule.specs.Refusals.{refusal_number}
-use Rattle.schedule.specs.Replies.{heard, heard_so}
+use Rattle.schedule.specs.Listing.{reply_bytes}
+use Rattle.schedule.specs.Replies.{heard}
 use Rattle.schedule.proofs.Runs.{all_passed, lists_more, lists_none, none_passed, passed_none}
-use Rattle.schedule.proofs.printing.list_lines.Goals.{else-is_full, in-Err, in-Ok-Answered, then-is_full+in_ok-flush}
+use Rattle.schedule.proofs.printing.list_lines.Goals.{else-is_full, then-is_full+in_ok-flush}
 use Rattle.schedule.proofs.printing.list_lines.Goals as goal
 
 -- a line that was held, or not, where the buffer is full
@@ -37,14 +32,6 @@ passed_full {K} contents line o p q (Err e) x is (sink, same) a =
     let alike : Appended contents line p x q ≡ Appended contents line o x q = λ i. MatchResult x (λ _. Passed (same.0 i ++ line) (contents (sink i)) (held q) (contents q.sink)) (λ _. Cut (same.0 i ++ line) (contents (sink i)) (contents q.sink)) in
     subst (λ z. z) alike a
 
--- the bytes of a line, by what it came to
-
-quiet : (n : ℕ) (r : Result Reply Refusal) (f h : Reply) → r ≡ Ok f → f ≡ h → reply_bytes n (heard_so r) ≡ heard_bytes n (heard h)
-quiet n r f h is so = ap (λ (z : Result Reply Refusal). reply_bytes n (heard_so z)) is ∙ ap (λ z. heard_bytes n (heard z)) so
-
-refused : (n : ℕ) (r : Result Reply Refusal) (e : Refusal) (k : ℕ) → r ≡ Err e → k ≡ refusal_number e → reply_bytes n (heard_so r) ≡ shown n (Refused k)
-refused n r e k is number = ap (λ (z : Result Reply Refusal). reply_bytes n (heard_so z)) is ∙ ap (λ k. shown n (Refused k)) (sym number)
-
 pub loop-reader-init : goal.loop-reader-init
 loop-reader-init g c = (refl, λ t q rest x h. h)
 
@@ -58,64 +45,56 @@ returns-in_default-clause-lists g c =
     let s = c.loop-reader.server in
     let before = held c.loop-reader.out in
     let a = g.S.Sink.contents c.loop-reader.out.sink in
-    let same = sym c.in_default.ensures.1 in
-    c.loop-reader.invariant.1 s c.next_line.new.self before a (subst (λ q. Lists g.V.Serve.serves s c.loop-reader.reader before a s q before a) same (lists_none g.V.Serve.serves s c.loop-reader.reader before a))
+    let none = lists_none g.V.Serve.serves s c.loop-reader.reader before a in
+    (before, c.loop-reader.invariant.1 s c.next_line.new.self before a (subst (λ q. Lists g.V.Serve.serves s c.loop-reader.reader before a s q before a) (sym c.in_default.ensures.1) none), refl)
 
 pub returns-in_default-clause-input : goal.returns-in_default-clause-input
 returns-in_default-clause-input g c = ap (λ (r : Reader). r.input.now) c.in_default.ensures.1 ∙ c.loop-reader.invariant.0
 
-pub loop-reader-preserved-in-Ok-Nothing : goal.loop-reader-preserved-in-Ok-Nothing
-loop-reader-preserved-in-Ok-Nothing g c = (
-  c.in-Some.ensures.same_input ∙ c.loop-reader.invariant.0,
-  λ t q rest x h. c.loop-reader.invariant.1 t q rest x
-      (lists_more g.V.Serve.serves c.loop-reader.server c.obey.new.server t c.loop-reader.reader c.next_line.new.self q (held c.loop-reader.out) (held c.loop-reader.out) rest _ _ x c.in-Some.text.now [] (heard_so c.obey.result) c.number-number.result c.in-Some.ensures.first c.in-Some.ensures.counted c.number-number.ensures.value c.obey.ensures.obeys (quiet c.number-number.result c.obey.result c.in-Ok-Nothing.field-0 Nothing c.in-Ok-Nothing.is c.in-Ok-Nothing.field-0-is) (passed_none (held c.loop-reader.out) _) h),
-)
+pub loop-reader-preserved-in-Nothing : goal.loop-reader-preserved-in-Nothing
+loop-reader-preserved-in-Nothing g c =
+    let so = ap (λ z. reply_bytes c.number-number.result (heard z)) c.in-Nothing.is in (
+      c.in-Some.ensures.same_input ∙ c.loop-reader.invariant.0,
+      λ t q rest x h. c.loop-reader.invariant.1 t q rest x
+          (lists_more g.V.Serve.serves (heard c.obey_line.result) c.in-Some.ensures.first c.in-Some.ensures.counted c.number-number.ensures.value c.obey_line.ensures.obeys so (passed_none (held c.loop-reader.out) _) h),
+    )
 
-pub returns-in_err-put_note-in-Ok-Note-clause-lists : goal.returns-in_err-put_note-in-Ok-Note-clause-lists
-returns-in_err-put_note-in-Ok-Note-clause-lists g c =
-    let m = c.obey.new.server in
-    let n = c.next_line.new.self in
-    let x = g.S.Sink.contents c.put_note.new.self.sink in
-    let (rest, cut) = passed_full g.S.Sink.contents (noted c.number-number.result c.in-Ok-Note.note.now) c.loop-reader.out c.hold_note.new.self c.put_note.new.self c.hold_note.result (Err c.in_err-put_note-in-Ok-Note.field-0.0) c.if-is_err.ensures.value c.hold_note.ensures.holds c.in_err-put_note-in-Ok-Note.ensures.appended in
-    let r = c.from_residual in
-    MatchResult-from_err r.result _ _ r.ensures.0
-    (λ e. (
-      rest,
-      c.loop-reader.invariant.1 m n rest x
-          (lists_more g.V.Serve.serves c.loop-reader.server c.obey.new.server m c.loop-reader.reader c.next_line.new.self n (held c.loop-reader.out) rest rest _ _ x c.in-Some.text.now (noted c.number-number.result c.in-Ok-Note.note.now) (heard_so c.obey.result) c.number-number.result c.in-Some.ensures.first c.in-Some.ensures.counted c.number-number.ensures.value c.obey.ensures.obeys (quiet c.number-number.result c.obey.result c.in-Ok-Note.field-0 (Note c.in-Ok-Note.note) c.in-Ok-Note.is c.in-Ok-Note.field-0-is) cut (lists_none g.V.Serve.serves m n rest x)),
-    ))
+pub returns-in_err-put_note-in-Note-clause-lists : goal.returns-in_err-put_note-in-Note-clause-lists
+returns-in_err-put_note-in-Note-clause-lists g c =
+    let n = c.number-number.result in
+    let so = ap (λ z. reply_bytes n (heard z)) c.in-Note.is in
+    let (rest, cut) = passed_full g.S.Sink.contents (noted n c.in-Note.note.now) c.loop-reader.out c.hold_note.new.self c.put_note.new.self c.hold_note.result (Err c.in_err-put_note-in-Note.field-0.0) c.if-is_err.ensures.value c.hold_note.ensures.holds c.in_err-put_note-in-Note.ensures.appended in
+    let none = lists_none g.V.Serve.serves c.obey_line.new.server c.next_line.new.self rest _ in
+    let lists = lists_more g.V.Serve.serves (heard c.obey_line.result) c.in-Some.ensures.first c.in-Some.ensures.counted c.number-number.ensures.value c.obey_line.ensures.obeys so cut none in
+    (rest, c.loop-reader.invariant.1 _ _ rest _ lists, MatchResult-from_err c.from_residual.result _ _ c.from_residual.ensures.0 (λ e. c.in_err-put_note-in-Note.ensures.lost))
 
-pub loop-reader-preserved-in_ok-put_note-in-Ok-Note : goal.loop-reader-preserved-in_ok-put_note-in-Ok-Note
-loop-reader-preserved-in_ok-put_note-in-Ok-Note g c = (
-  c.in-Some.ensures.same_input ∙ c.loop-reader.invariant.0,
-  λ t q rest x h. c.loop-reader.invariant.1 t q rest x
-      (lists_more g.V.Serve.serves c.loop-reader.server c.obey.new.server t c.loop-reader.reader c.next_line.new.self q (held c.loop-reader.out) (held c.put_note.new.self) rest _ _ x c.in-Some.text.now (noted c.number-number.result c.in-Ok-Note.note.now) (heard_so c.obey.result) c.number-number.result c.in-Some.ensures.first c.in-Some.ensures.counted c.number-number.ensures.value c.obey.ensures.obeys (quiet c.number-number.result c.obey.result c.in-Ok-Note.field-0 (Note c.in-Ok-Note.note) c.in-Ok-Note.is c.in-Ok-Note.field-0-is) (passed_full {E = g.row.S-Error.Denot} g.S.Sink.contents (noted c.number-number.result c.in-Ok-Note.note.now) c.loop-reader.out c.hold_note.new.self c.put_note.new.self c.hold_note.result (Ok tt) c.if-is_err.ensures.value c.hold_note.ensures.holds c.in_ok-put_note-in-Ok-Note.ensures.appended) h),
-)
+pub loop-reader-preserved-in_ok-put_note-in-Note : goal.loop-reader-preserved-in_ok-put_note-in-Note
+loop-reader-preserved-in_ok-put_note-in-Note g c =
+    let n = c.number-number.result in
+    let so = ap (λ z. reply_bytes n (heard z)) c.in-Note.is in
+    let passed = passed_full {E = g.row.S-Error.Denot} g.S.Sink.contents (noted n c.in-Note.note.now) c.loop-reader.out c.hold_note.new.self c.put_note.new.self c.hold_note.result (Ok tt) c.if-is_err.ensures.value c.hold_note.ensures.holds c.in_ok-put_note-in-Note.ensures.appended in (
+      c.in-Some.ensures.same_input ∙ c.loop-reader.invariant.0,
+      λ t q rest x h. c.loop-reader.invariant.1 t q rest x (lists_more g.V.Serve.serves (heard c.obey_line.result) c.in-Some.ensures.first c.in-Some.ensures.counted c.number-number.ensures.value c.obey_line.ensures.obeys so passed h),
+    )
 
 pub loop-reader-preserved-else-is_err : goal.loop-reader-preserved-else-is_err
-loop-reader-preserved-else-is_err g c = (
-  c.in-Some.ensures.same_input ∙ c.loop-reader.invariant.0,
-  λ t q rest x h. c.loop-reader.invariant.1 t q rest x
-      (lists_more g.V.Serve.serves c.loop-reader.server c.obey.new.server t c.loop-reader.reader c.next_line.new.self q (held c.loop-reader.out) (held c.hold_note.new.self) rest _ _ x c.in-Some.text.now (noted c.number-number.result c.in-Ok-Note.note.now) (heard_so c.obey.result) c.number-number.result c.in-Some.ensures.first c.in-Some.ensures.counted c.number-number.ensures.value c.obey.ensures.obeys (quiet c.number-number.result c.obey.result c.in-Ok-Note.field-0 (Note c.in-Ok-Note.note) c.in-Ok-Note.is c.in-Ok-Note.field-0-is) (passed_held g.S.Sink.contents (noted c.number-number.result c.in-Ok-Note.note.now) c.loop-reader.out c.hold_note.new.self c.hold_note.result c.if-is_err.ensures.value c.hold_note.ensures.holds) h),
-)
+loop-reader-preserved-else-is_err g c =
+    let n = c.number-number.result in
+    let so = ap (λ z. reply_bytes n (heard z)) c.in-Note.is in
+    let passed = passed_held g.S.Sink.contents (noted n c.in-Note.note.now) c.loop-reader.out c.hold_note.new.self c.hold_note.result c.if-is_err.ensures.value c.hold_note.ensures.holds in (
+      c.in-Some.ensures.same_input ∙ c.loop-reader.invariant.0,
+      λ t q rest x h. c.loop-reader.invariant.1 t q rest x (lists_more g.V.Serve.serves (heard c.obey_line.result) c.in-Some.ensures.first c.in-Some.ensures.counted c.number-number.ensures.value c.obey_line.ensures.obeys so passed h),
+    )
 
 pub returns-in_err-flush-clause-lists : goal.returns-in_err-flush-clause-lists
 returns-in_err-flush-clause-lists g c =
-    let so : reply_bytes c.number-number.result (heard_so c.obey.result) ≡ shown c.number-number.result c.match-obey.answer = elim c.match-obey.branch [
-      | in-Ok-Answered w ↦ quiet c.number-number.result c.obey.result w.in-Ok-Answered.field-0 (Answered w.in-Ok-Answered.answer) w.in-Ok-Answered.is w.in-Ok-Answered.field-0-is ∙ ap (shown c.number-number.result) (sym w.answer-is)
-      | in-Err w ↦ refused c.number-number.result c.obey.result w.in-Err.why w.number.result w.in-Err.is w.number.ensures ∙ ap (shown c.number-number.result) (sym w.answer-is)
-    ] in
-    let m = c.obey.new.server in
-    let n = c.next_line.new.self in
-    let x = g.S.Sink.contents c.flush.new.self.sink in
-    let (rest, cut) = cut_before (held c.loop-reader.out) (shown c.number-number.result c.match-obey.answer) _ x c.in_err-flush.ensures.written in
+    let n = c.number-number.result in
+    let so = ap (λ z. reply_bytes n (heard z)) c.in-Answered.is in
+    let (rest, cut) = cut_before (held c.loop-reader.out) (shown n c.in-Answered.answer) _ _ c.in_err-flush.ensures.written in
+    let none = lists_none g.V.Serve.serves c.obey_line.new.server c.next_line.new.self rest _ in
+    let lists = lists_more g.V.Serve.serves (heard c.obey_line.result) c.in-Some.ensures.first c.in-Some.ensures.counted c.number-number.ensures.value c.obey_line.ensures.obeys so cut none in
     let r = c.from_residual-in_err-flush in
-    MatchResult-from_err r.result _ _ r.ensures.0
-    (λ e. (
-      rest,
-      c.loop-reader.invariant.1 m n rest x
-          (lists_more g.V.Serve.serves c.loop-reader.server c.obey.new.server m c.loop-reader.reader c.next_line.new.self n (held c.loop-reader.out) rest rest _ _ x c.in-Some.text.now (shown c.number-number.result c.match-obey.answer) (heard_so c.obey.result) c.number-number.result c.in-Some.ensures.first c.in-Some.ensures.counted c.number-number.ensures.value c.obey.ensures.obeys so cut (lists_none g.V.Serve.serves m n rest x)),
-    ))
+    (rest, c.loop-reader.invariant.1 _ _ rest _ lists, MatchResult-from_err r.result _ _ r.ensures.0 (λ e. c.in_err-flush.ensures.empty))
 
 pub unwrap-requires : goal.unwrap-requires
 unwrap-requires g c =
@@ -127,10 +106,8 @@ unwrap-requires g c =
 
 pub loop-reader-preserved : goal.loop-reader-preserved
 loop-reader-preserved g c =
-    let so : reply_bytes c.number-number.result (heard_so c.obey.result) ≡ shown c.number-number.result c.match-obey.answer = elim c.match-obey.branch [
-      | in-Ok-Answered w ↦ quiet c.number-number.result c.obey.result w.in-Ok-Answered.field-0 (Answered w.in-Ok-Answered.answer) w.in-Ok-Answered.is w.in-Ok-Answered.field-0-is ∙ ap (shown c.number-number.result) (sym w.answer-is)
-      | in-Err w ↦ refused c.number-number.result c.obey.result w.in-Err.why w.number.result w.in-Err.is w.number.ensures ∙ ap (shown c.number-number.result) (sym w.answer-is)
-    ] in
+    let line = shown c.number-number.result c.in-Answered.answer in
+    let so = ap (λ z. reply_bytes c.number-number.result (heard z)) c.in-Answered.is in
     let before = held c.loop-reader.out in
     let a = g.S.Sink.contents c.loop-reader.out.sink in
     let o = c.if-is_full.out in
@@ -139,11 +116,10 @@ loop-reader-preserved g c =
       | else-is_full w ↦ subst (λ (o : Output g.row.S.Denot). Passed before a (held o) (g.S.Sink.contents o.sink)) (sym w.out-is) (none_passed before a)
     ] in
     let p = c.hold_answer.new.self in
-    let line = passed_ok g.S.Sink.contents (shown c.number-number.result c.match-obey.answer) o p c.hold_answer.result c.unwrap.ensures c.hold_answer.ensures.holds in
-    let passed = passed_more (before ++ (shown c.number-number.result c.match-obey.answer)) (held o ++ (shown c.number-number.result c.match-obey.answer)) (held p) a _ _ (passed_before before (shown c.number-number.result c.match-obey.answer) (held o) a _ first) line in (
+    let then = passed_ok g.S.Sink.contents line o p c.hold_answer.result c.unwrap.ensures c.hold_answer.ensures.holds in
+    let passed = passed_more (before ++ line) (held o ++ line) (held p) a _ _ (passed_before before line (held o) a _ first) then in (
       c.in-Some.ensures.same_input ∙ c.loop-reader.invariant.0,
-      λ t q rest x h. c.loop-reader.invariant.1 t q rest x
-          (lists_more g.V.Serve.serves c.loop-reader.server c.obey.new.server t c.loop-reader.reader c.next_line.new.self q (held c.loop-reader.out) (held p) rest _ _ x c.in-Some.text.now (shown c.number-number.result c.match-obey.answer) (heard_so c.obey.result) c.number-number.result c.in-Some.ensures.first c.in-Some.ensures.counted c.number-number.ensures.value c.obey.ensures.obeys so passed h),
+      λ t q rest x h. c.loop-reader.invariant.1 t q rest x (lists_more g.V.Serve.serves (heard c.obey_line.result) c.in-Some.ensures.first c.in-Some.ensures.counted c.number-number.ensures.value c.obey_line.ensures.obeys so passed h),
     )
 
 pub returns-clause-lists : goal.returns-clause-lists
@@ -151,7 +127,7 @@ returns-clause-lists g c =
     let s = c.loop-reader.server in
     let before = held c.loop-reader.out in
     let a = g.S.Sink.contents c.loop-reader.out.sink in
-    c.loop-reader.invariant.1 s c.loop-reader.reader before a (lists_none g.V.Serve.serves s c.loop-reader.reader before a)
+    (before, c.loop-reader.invariant.1 s c.loop-reader.reader before a (lists_none g.V.Serve.serves s c.loop-reader.reader before a), refl)
 
 pub returns-clause-input : goal.returns-clause-input
 returns-clause-input g c = c.loop-reader.invariant.0
