@@ -93,12 +93,14 @@ fn an_input_for_which_there_is_no_room_is_told(rt: HostRuntime) {
     assert_eq!(rt; &held[..], &TEXT[..4]);
 }
 
+// None of the others is held, for which a flush would find no room.
 #[test]
 fn a_write_that_fails_leaves_a_front_of_the_listing(rt: HostRuntime) {
     for room in 0..LISTING.len() {
         let mut held = [0; 32];
         let mut out = Output::new(&mut held[..room]);
         assert!(rt; list(TEXT, &mut out).is_err());
+        assert!(rt; out.flush().is_ok());
         assert_eq!(rt; &held[..room], &LISTING[..room]);
     }
 }
@@ -108,5 +110,19 @@ fn a_listing_for_which_there_is_room_is_written(rt: HostRuntime) -> Result<(), F
     let mut held = [0; 18];
     list(TEXT, &mut Output::new(&mut held[..]))?;
     assert_eq!(rt; &held[..], LISTING);
+    Ok(())
+}
+
+// An output has no room for so long a note: it goes from the input to what takes the listing.
+#[test]
+fn a_long_note_is_listed_whole(rt: HostRuntime) -> Result<(), Fail> {
+    let mut input = [b'#'; 5_013];
+    input[..8].copy_from_slice(b"O w r R\n");
+    input[5_008..].copy_from_slice(b"\nE 1\n");
+    let mut held = [b'.'; 5_022];
+    list(&input, &mut Output::new(&mut held[..]))?;
+    assert_eq!(rt; &held[..9], b"1 ok 1\n2 ");
+    assert_eq!(rt; &held[9..5_009], &input[8..5_008]);
+    assert_eq!(rt; &held[5_009..], b"\n3 ok 161 1\n.");
     Ok(())
 }

@@ -1,6 +1,6 @@
--- What becomes of bytes that are written to a sink, and of those that a source gives.
-use Rattle.std.specs.Prelude.{◌≡◌, ℕ, ◌<◌, ◌≤◌, ◌⊎◌, List, ◌++◌, length, take, IfOk, MatchResult, Option, Result}
-use Rattle.std.specs.Io.KnownBytes.{Appends, Consumes, IsAtEnd}
+-- What becomes of bytes that are written to a sink.
+use Rattle.std.specs.Prelude.{◌≡◌, ℕ, ◌<◌, ◌≤◌, List, ◌++◌, length, IfOk, MatchResult, Option, Result}
+use Rattle.std.specs.Io.KnownBytes.{Appends}
 
 -- no more bytes are taken than there are, and at least one where there is one
 abbrev pub TakesSome : {E : Type 0} → Result ℕ E → List ℕ → Type 0
@@ -19,10 +19,3 @@ Cut all a b = (rest : List ℕ) × Passed all a rest b
 -- all the bytes `all` were written, which led the writer from a to b; where that failed a front of them, and no other byte
 abbrev pub Writes : {E : Type 0} → List ℕ → Option (List ℕ) → Option (List ℕ) → Result (Unit {0}) E → Type 0
 Writes all a b r = MatchResult r (λ _. Appends a b all) (λ _. Cut all a b)
-
--- the first n bytes of the room were given, until it was full or none was left; where that failed some bytes were given
-abbrev pub Fills : {E : Type 0} → Option (List ℕ) → Option (List ℕ) → Result ℕ E → List ℕ → Type 0
-Fills a b r room =
-    MatchResult r
-    (λ n. (n ≤ length room) × Consumes a b (take n room) × (IsAtEnd b ⊎ (n ≡ length room)))
-    (λ _. (n : ℕ) × Consumes a b (take n room))

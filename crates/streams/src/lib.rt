@@ -2,7 +2,6 @@
 // can make no error, so it fails only where they do.
 #![tactic(auto)]
 
-pub mod filling;
 mod readers;
 pub mod sink;
 pub mod source;
