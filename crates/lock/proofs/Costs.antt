@@ -142,176 +142,24 @@ module _ (C D G X P U V i prev curr d x : ℕ) (p : Place) (s : Standing) (accou
       Before l (seen i (track o)) → OneTask (seen_cells cells ws) (seen i (track o)) → (b : Task) (theirs : Units) (held : ℕ → ℕ) → Met (seen_cells cells ws) (next l o ws) (seen i (track o)) b → Paid (seen_cells cells ws) b (purse theirs held) →
       Paid (next l o ws) b (purse theirs (other_copies (deed l o) held))
 
-  keeps_line_0p1 : (o : Role) (ws : List ℕ) → PayerKept L0p1 o ws
-  keeps_line_0p1 o ws f m k = grind arith
-
-  keeps_line_0p2 : (o : Role) (ws : List ℕ) → PayerKept L0p2 o ws
-  keeps_line_0p2 o [] f m k = grind arith
-  keeps_line_0p2 o (y ∷ ys) f m k = elim (cases_eq y (suc i)) [ inl same ↦ rw (eq-eqb y (suc i) same) (grind arith) | inr other ↦ rw (ne_eqb y (suc i) other) (grind arith) ]
-
-  keeps_line_1 : (o : Role) (ws : List ℕ) → PayerKept L1 o ws
-  keeps_line_1 o ws f m k = grind arith
-
-  keeps_line_2 : (o : Role) (ws : List ℕ) → PayerKept L2 o ws
-  keeps_line_2 o ws f m k = grind arith
-
-  keeps_line_3 : (o : Role) (ws : List ℕ) → PayerKept L3 o ws
-  keeps_line_3 o ws f m k = grind arith
-
-  keeps_line_4 : (o : Role) (ws : List ℕ) → PayerKept L4 o ws
-  keeps_line_4 o ws f m k = grind arith
-
-  keeps_line_6 : (o : Role) (ws : List ℕ) → PayerKept L6 o ws
-  keeps_line_6 o ws f m k = elim (cases_eq P 1) [ inl same ↦ rw (eq-eqb P 1 same) (grind arith) | inr other ↦ rw (ne_eqb P 1 other) (grind arith) ]
-
-  keeps_line_7 : (o : Role) (ws : List ℕ) → PayerKept L7 o ws
-  keeps_line_7 o ws f m k = grind arith
-
-  keeps_line_8 : (o : Role) (ws : List ℕ) → PayerKept L8 o ws
-  keeps_line_8 o ws f m k = grind arith
-
-  keeps_line_9 : (o : Role) (ws : List ℕ) → PayerKept L9 o ws
-  keeps_line_9 o ws f m k = grind arith
-
-  keeps_line_10 : (o : Role) (ws : List ℕ) → PayerKept L10 o ws
-  keeps_line_10 o ws f m k = elim (cases_eq x 0) [ inl same ↦ rw (eq-eqb x 0 same) (grind arith) | inr other ↦ rw (ne_eqb x 0 other) (grind arith) ]
-
-  keeps_line_11 : (o : Role) (ws : List ℕ) → PayerKept L11 o ws
-  keeps_line_11 o ws f m k = elim (cases_eq X x) [ inl same ↦ rw (eq-eqb X x same) (grind arith) | inr other ↦ rw (ne_eqb X x other) (grind arith) ]
-
-  keeps_line_12 : (o : Role) (ws : List ℕ) → PayerKept L12 o ws
-  keeps_line_12 o ws f m k = elim (cases_eq P 1) [ inl same ↦ rw (eq-eqb P 1 same) (grind arith) | inr other ↦ rw (ne_eqb P 1 other) (grind arith) ]
-
-  keeps_line_13 : (o : Role) (ws : List ℕ) → PayerKept L13 o ws
-  keeps_line_13 o ws f m k = elim (cases_eq C 0) [ inl same ↦ rw (eq-eqb C 0 same) (grind arith) | inr other ↦ rw (ne_eqb C 0 other) (grind arith) ]
-
-  keeps_line_14 : (o : Role) (ws : List ℕ) → PayerKept L14 o ws
-  keeps_line_14 o ws f m k = elim (cases_eq X (suc i)) [ inl same ↦ rw (eq-eqb X (suc i) same) (grind arith) | inr other ↦ rw (ne_eqb X (suc i) other) (grind arith) ]
-
-  keeps_line_15 : (o : Role) (ws : List ℕ) → PayerKept L15 o ws
-  keeps_line_15 o ws f m k = grind arith
-
-  keeps_line_16 : (o : Role) (ws : List ℕ) → PayerKept L16 o ws
-  keeps_line_16 o ws f m k = grind arith
-
-  keeps_line_16p1 : (o : Role) (ws : List ℕ) → PayerKept L16p1 o ws
-  keeps_line_16p1 o ws f m k = grind arith
-
-  keeps_line_17 : (o : Role) (ws : List ℕ) → PayerKept L17 o ws
-  keeps_line_17 o ws f m k = grind arith
-
-  keeps_line_18 : (o : Role) (ws : List ℕ) → PayerKept L18 o ws
-  keeps_line_18 o ws f m k = grind arith
-
-  keeps_line_19 : (o : Role) (ws : List ℕ) → PayerKept L19 o ws
-  keeps_line_19 o ws f m k = elim (cases_eq x 0) [ inl same ↦ rw (eq-eqb x 0 same) (grind arith) | inr other ↦ rw (ne_eqb x 0 other) (grind arith) ]
-
-  keeps_line_20 : (o : Role) (ws : List ℕ) → PayerKept L20 o ws
-  keeps_line_20 o ws f m k = grind arith
-
-  keeps_line_21 : (o : Role) (ws : List ℕ) → PayerKept L21 o ws
-  keeps_line_21 o ws f m k = elim (cases_eq X 0) [ inl same ↦ rw (eq-eqb X 0 same) (grind arith) | inr other ↦ rw (ne_eqb X 0 other) (grind arith) ]
-
-  keeps_line_22 : (o : Role) (ws : List ℕ) → PayerKept L22 o ws
-  keeps_line_22 o ws f m k = elim (cases_eq G d) [ inl same ↦ rw (eq-eqb G d same) (grind arith) | inr other ↦ rw (ne_eqb G d other) (grind arith) ]
-
-  keeps_line_22p1 : (o : Role) (ws : List ℕ) → PayerKept L22p1 o ws
-  keeps_line_22p1 o ws f m k = elim (cases_eq U 2) [ inl same ↦ rw (eq-eqb U 2 same) (grind arith) | inr other ↦ rw (ne_eqb U 2 other) (grind arith) ]
-
-  keeps_line_22p2 : (o : Role) (ws : List ℕ) → PayerKept L22p2 o ws
-  keeps_line_22p2 o ws f m k = elim (cases_eq V 0) [ inl same ↦ rw (eq-eqb V 0 same) (grind arith) | inr other ↦ rw (ne_eqb V 0 other) (grind arith) ]
-
-  keeps_line_23 : (o : Role) (ws : List ℕ) → PayerKept L23 o ws
-  keeps_line_23 o ws f m k = grind arith
-
-  keeps_line_25p1 : (o : Role) (ws : List ℕ) → PayerKept L25p1 o ws
-  keeps_line_25p1 o ws f m k = grind arith
-
-  keeps_line_25p2 : (o : Role) (ws : List ℕ) → PayerKept L25p2 o ws
-  keeps_line_25p2 o ws f m k = grind arith
-
-  keeps_line_25p3 : (o : Role) (ws : List ℕ) → PayerKept L25p3 o ws
-  keeps_line_25p3 o ws f m k = grind arith
-
-  keeps_line_26p1 : (o : Role) (ws : List ℕ) → PayerKept L26p1 o ws
-  keeps_line_26p1 o ws f m k = grind arith
-
-  keeps_line_27p1 : (o : Role) (ws : List ℕ) → PayerKept L27p1 o ws
-  keeps_line_27p1 o ws f m k = elim (cases_lt 1 C) [ inl more ↦ rw (lt-ltb 1 C more) (grind arith) | inr few ↦ rw (le-ltb 1 C few) (grind arith) ]
-
-  keeps_line_27p2 : (o : Role) (ws : List ℕ) → PayerKept L27p2 o ws
-  keeps_line_27p2 o ws f m k = grind arith
-
-  keeps_line_27p3 : (o : Role) (ws : List ℕ) → PayerKept L27p3 o ws
-  keeps_line_27p3 o ws f m k = elim (cases_lt 1 C) [ inl more ↦ rw (lt-ltb 1 C more) (grind arith) | inr few ↦ rw (le-ltb 1 C few) (grind arith) ]
-
-  keeps_line_27p4 : (o : Role) (ws : List ℕ) → PayerKept L27p4 o ws
-  keeps_line_27p4 o ws f m k = grind arith
-
-  keeps_line_27p5 : (o : Role) (ws : List ℕ) → PayerKept L27p5 o ws
-  keeps_line_27p5 o ws f m k = elim (cases_eq U 1) [ inl same ↦ rw (eq-eqb U 1 same) (grind arith) | inr other ↦ rw (ne_eqb U 1 other) (grind arith) ]
-
-  keeps_down_28p1 : (o : Role) (ws : List ℕ) → PayerKept Down28p1 o ws
-  keeps_down_28p1 o ws f m k = grind arith
-
-  keeps_down_28p2 : (o : Role) (ws : List ℕ) → PayerKept Down28p2 o ws
-  keeps_down_28p2 o ws f m k = grind arith
-
-  keeps_line_28p1 : (o : Role) (ws : List ℕ) → PayerKept L28p1 o ws
-  keeps_line_28p1 o ws f m k = grind arith
-
-  keeps_line_28p2 : (o : Role) (ws : List ℕ) → PayerKept L28p2 o ws
-  keeps_line_28p2 o ws f m k = grind arith
-
-  keeps_line_29p2 : (o : Role) (ws : List ℕ) → PayerKept L29p2 o ws
-  keeps_line_29p2 o ws f m k = grind arith
-
-  keeps_line_32p1 : (o : Role) (ws : List ℕ) → PayerKept L32p1 o ws
-  keeps_line_32p1 o ws f m k = grind arith
-
   pub payer_kept : (l : Line) (o : Role) (ws : List ℕ) → PayerKept l o ws
-  payer_kept L0p1 = keeps_line_0p1
-  payer_kept L0p2 = keeps_line_0p2
-  payer_kept L1 = keeps_line_1
-  payer_kept L2 = keeps_line_2
-  payer_kept L3 = keeps_line_3
-  payer_kept L4 = keeps_line_4
-  payer_kept L6 = keeps_line_6
-  payer_kept L7 = keeps_line_7
-  payer_kept L8 = keeps_line_8
-  payer_kept L9 = keeps_line_9
-  payer_kept L10 = keeps_line_10
-  payer_kept L11 = keeps_line_11
-  payer_kept L12 = keeps_line_12
-  payer_kept L13 = keeps_line_13
-  payer_kept L14 = keeps_line_14
-  payer_kept L15 = keeps_line_15
-  payer_kept L16 = keeps_line_16
-  payer_kept L16p1 = keeps_line_16p1
-  payer_kept L17 = keeps_line_17
-  payer_kept L18 = keeps_line_18
-  payer_kept L19 = keeps_line_19
-  payer_kept L20 = keeps_line_20
-  payer_kept L21 = keeps_line_21
-  payer_kept L22 = keeps_line_22
-  payer_kept L22p1 = keeps_line_22p1
-  payer_kept L22p2 = keeps_line_22p2
-  payer_kept L23 = keeps_line_23
-  payer_kept L25p1 = keeps_line_25p1
-  payer_kept L25p2 = keeps_line_25p2
-  payer_kept L25p3 = keeps_line_25p3
-  payer_kept L26p1 = keeps_line_26p1
-  payer_kept L27p1 = keeps_line_27p1
-  payer_kept L27p2 = keeps_line_27p2
-  payer_kept L27p3 = keeps_line_27p3
-  payer_kept L27p4 = keeps_line_27p4
-  payer_kept L27p5 = keeps_line_27p5
-  payer_kept Down28p1 = keeps_down_28p1
-  payer_kept Down28p2 = keeps_down_28p2
-  payer_kept L28p1 = keeps_line_28p1
-  payer_kept L28p2 = keeps_line_28p2
-  payer_kept L29p2 = keeps_line_29p2
-  payer_kept L32p1 = keeps_line_32p1
+  payer_kept L0p2 o [] f m k = grind arith
+  payer_kept L0p2 o (y ∷ ys) f m k = elim (cases_eq y (suc i)) [ inl same ↦ rw (eq-eqb y (suc i) same) (grind arith) | inr other ↦ rw (ne_eqb y (suc i) other) (grind arith) ]
+  payer_kept L6 o ws f m k = elim (cases_eq P 1) [ inl same ↦ rw (eq-eqb P 1 same) (grind arith) | inr other ↦ rw (ne_eqb P 1 other) (grind arith) ]
+  payer_kept L10 o ws f m k = elim (cases_eq x 0) [ inl same ↦ rw (eq-eqb x 0 same) (grind arith) | inr other ↦ rw (ne_eqb x 0 other) (grind arith) ]
+  payer_kept L11 o ws f m k = elim (cases_eq X x) [ inl same ↦ rw (eq-eqb X x same) (grind arith) | inr other ↦ rw (ne_eqb X x other) (grind arith) ]
+  payer_kept L12 o ws f m k = elim (cases_eq P 1) [ inl same ↦ rw (eq-eqb P 1 same) (grind arith) | inr other ↦ rw (ne_eqb P 1 other) (grind arith) ]
+  payer_kept L13 o ws f m k = elim (cases_eq C 0) [ inl same ↦ rw (eq-eqb C 0 same) (grind arith) | inr other ↦ rw (ne_eqb C 0 other) (grind arith) ]
+  payer_kept L14 o ws f m k = elim (cases_eq X (suc i)) [ inl same ↦ rw (eq-eqb X (suc i) same) (grind arith) | inr other ↦ rw (ne_eqb X (suc i) other) (grind arith) ]
+  payer_kept L19 o ws f m k = elim (cases_eq x 0) [ inl same ↦ rw (eq-eqb x 0 same) (grind arith) | inr other ↦ rw (ne_eqb x 0 other) (grind arith) ]
+  payer_kept L21 o ws f m k = elim (cases_eq X 0) [ inl same ↦ rw (eq-eqb X 0 same) (grind arith) | inr other ↦ rw (ne_eqb X 0 other) (grind arith) ]
+  payer_kept L22 o ws f m k = elim (cases_eq G d) [ inl same ↦ rw (eq-eqb G d same) (grind arith) | inr other ↦ rw (ne_eqb G d other) (grind arith) ]
+  payer_kept L22p1 o ws f m k = elim (cases_eq U 2) [ inl same ↦ rw (eq-eqb U 2 same) (grind arith) | inr other ↦ rw (ne_eqb U 2 other) (grind arith) ]
+  payer_kept L22p2 o ws f m k = elim (cases_eq V 0) [ inl same ↦ rw (eq-eqb V 0 same) (grind arith) | inr other ↦ rw (ne_eqb V 0 other) (grind arith) ]
+  payer_kept L27p1 o ws f m k = elim (cases_lt 1 C) [ inl more ↦ rw (lt-ltb 1 C more) (grind arith) | inr few ↦ rw (le-ltb 1 C few) (grind arith) ]
+  payer_kept L27p3 o ws f m k = elim (cases_lt 1 C) [ inl more ↦ rw (lt-ltb 1 C more) (grind arith) | inr few ↦ rw (le-ltb 1 C few) (grind arith) ]
+  payer_kept L27p5 o ws f m k = elim (cases_eq U 1) [ inl same ↦ rw (eq-eqb U 1 same) (grind arith) | inr other ↦ rw (ne_eqb U 1 other) (grind arith) ]
+  payer_kept l o ws f m k = grind arith
 
   -- a deed that only reads or asks leaves the cells and the copies of others as they are
   pub others_kept : (l : Line) (o : Role) (ws : List ℕ) → OthersKept l o ws
