@@ -1,6 +1,7 @@
 -- What the questions of a call ask is what it needs: where none is answered no it has that, and where it has that none is.
 use Rattle.std.proofs.Common.{◌≡◌, ℕ, ◌+◌, ◌<◌, ◌≤◌, ◌⊎◌, true, eqb, leb, ltb, length, get_or, Some, None, Option, sym, refl, ap, ◌∙◌, subst, inl, inr, arith}
 use Rattle.std.proofs.lemmas.Bool.{and_from, and_parts, cases_Bool, eq-eqb, eqb-true, false≢true, le-leb, leb-true, lt-ltb, ltb-true}
+use Rattle.memory.specs.Calls.{Doing}
 use Rattle.lines.specs.declared.place.Place.{Place}
 use Rattle.lines.specs.declared.place.Place.TheVariants.{Rest, Inside, Next}
 use Rattle.lines.specs.declared.place.Right.{Right}
@@ -16,6 +17,7 @@ use Rattle.calls.proofs.Obeyed.{yes}
 use Rattle.lock.specs.Charges.{unfinished}
 use Rattle.lock.specs.Needs.{RefusedAsDamaged, IsRefused, Needs, OnLine}
 use Rattle.lock.specs.Runs.{task_of, was_obeyed}
+use Rattle.lock.proofs.Asked.{Passed, outcome, passed}
 use Rattle.lock.proofs.Recorded.{told, some_none}
 use Rattle.lock.proofs.Runs.{Obeyed}
 
@@ -71,8 +73,6 @@ shown s w k t h =
 abbrev pub NeedsIn : State → Call → Type 0
 NeedsIn s c = Needs s.number (length s.records) (length s.table) (told (record_of s (task_of c))) (record_of s (task_of c)).track c
 
--- a call that has it meets no question
-
 pub clear_task : (s : State) (t : ℕ) → s.opened ≡ true → 1 ≤ t → t ≤ length s.records → task_refusal s t ≡ None
 clear_task s t opened low high =
     ap (λ b. ask b Shut (ask (leb 1 t) NoTask (ask (leb t (length s.records)) NoTask None))) opened
@@ -124,43 +124,29 @@ Clear c (refuse e) = ⊥
 Clear c (line t r) = Unit {0}
 Clear c (at_once a z) = (was_obeyed a ≡ true) ⊎ RefusedAsDamaged c a
 
-pub asked_clear : (c : Call) (o : Option Refusal) (v : Verdict) → o ≡ None → Clear c v → Clear c (asked o v)
-asked_clear c o v e h = subst (λ x. Clear c (asked x v)) (sym e) h
+-- a call that has what it needs meets no question
+pub unasked : (c : Call) (s : State) → s.opened ≡ true → NeedsIn s c → Passed c s
+unasked (begin t) s opened (low, high, (rests, few)) = (clear_task s t opened low high, (clear_begin (record_of s t).track.place (record_of s t).account.finished rests few, tt))
+unasked (advance t) s opened (low, high, (l, is)) = (clear_task s t opened low high, (ap advance_refusal_at is, tt))
+unasked (take w t) s opened (low, high, (has, none)) = (clear_task s t opened low high, (clear_take (right_of (record_of s t).track) (record_of s t).out w has none, tt))
+unasked (lay_back w k t) s opened (low, high, (number, out)) = (clear_pass s w k t opened low high number out, tt)
+unasked (upgrade k t) s opened (low, high, ((number, out), few)) = (clear_pass s Reading k t opened low high number out, (ap (λ b. ask b Upgrades None) (lt-ltb (record_of s t).account.u 1000 few), tt))
+unasked (downgrade k t) s opened (low, high, (number, out)) = (clear_pass s Writing k t opened low high number out, tt)
+unasked (leave w k t) s opened (low, high, (number, out)) = (clear_pass s w k t opened low high number out, tt)
+unasked (read w k t row) s opened (low, high, ((number, out), there)) = (clear_pass s w k t opened low high number out, (clear_row row (length s.table) there, tt))
+unasked (put k t row n) s opened (low, high, ((number, out), there, some, few)) = (clear_pass s Writing k t opened low high number out, (clear_row row (length s.table) there, (clear_thickness n some few, tt)))
+
+outcome_clear : (c : Call) (s : State) → Clear c (outcome c s)
+outcome_clear (read w k t row) s = row_clear (get_or s.table row 0)
+outcome_clear (take w t) s = inl refl
+outcome_clear (lay_back w k t) s = inl refl
+outcome_clear (put k t row n) s = inl refl
+outcome_clear c s = tt
 
 pub judged_clear : (c : Call) (s : State) → s.opened ≡ true → NeedsIn s c → Clear c (judge c s)
-judged_clear (begin t) s opened (low, high, (rests, few)) =
-    let r = record_of s t in
-    asked_clear (begin t) (task_refusal s t) (asked (begin_refusal r) (line t (begun r))) (clear_task s t opened low high)
-    (asked_clear (begin t) (begin_refusal r) (line t (begun r)) (clear_begin r.track.place r.account.finished rests few) tt)
-judged_clear (advance t) s opened (low, high, (l, is)) =
-    let r = record_of s t in
-    asked_clear (advance t) (task_refusal s t) (asked (advance_refusal r) (line t r)) (clear_task s t opened low high) (asked_clear (advance t) (advance_refusal r) (line t r) (ap advance_refusal_at is) tt)
-judged_clear (take w t) s opened (low, high, (has, none)) =
-    let r = record_of s t in
-    let free = take_refusal (right_of r.track) r.out w in
-    let v = at_once (hands w s.number t) (with_record s t (with_out r (Some w))) in
-    asked_clear (take w t) (task_refusal s t) (asked free v) (clear_task s t opened low high) (asked_clear (take w t) free v (clear_take (right_of r.track) r.out w has none) (inl refl))
-judged_clear (lay_back w k t) s opened (low, high, (number, out)) =
-    asked_clear (lay_back w k t) (pass_refusal s w k t) (at_once done (with_record s t (with_out (record_of s t) None))) (clear_pass s w k t opened low high number out) (inl refl)
-judged_clear (upgrade k t) s opened (low, high, ((number, out), few)) =
-    let r = record_of s t in
-    asked_clear (upgrade k t) (pass_refusal s Reading k t) (asked (upgrade_refusal r) (line t (upgrading r))) (clear_pass s Reading k t opened low high number out)
-    (asked_clear (upgrade k t) (upgrade_refusal r) (line t (upgrading r)) (ap (λ b. ask b Upgrades None) (lt-ltb r.account.u 1000 few)) tt)
-judged_clear (downgrade k t) s opened (low, high, (number, out)) =
-    asked_clear (downgrade k t) (pass_refusal s Writing k t) (line t (downgrading (record_of s t))) (clear_pass s Writing k t opened low high number out) tt
-judged_clear (leave w k t) s opened (low, high, (number, out)) =
-    asked_clear (leave w k t) (pass_refusal s w k t) (line t (leaving (record_of s t))) (clear_pass s w k t opened low high number out) tt
-judged_clear (read w k t row) s opened (low, high, ((number, out), there)) =
-    let v = at_once (row_answer (get_or s.table row 0)) s in
-    asked_clear (read w k t row) (pass_refusal s w k t) (asked (row_refusal row (length s.table)) v) (clear_pass s w k t opened low high number out)
-    (asked_clear (read w k t row) (row_refusal row (length s.table)) v (clear_row row (length s.table) there) (row_clear (get_or s.table row 0)))
-judged_clear (put k t row n) s opened (low, high, ((number, out), there, some, few)) =
-    let v = at_once done (with_row s row n) in
-    asked_clear (put k t row n) (pass_refusal s Writing k t) (asked (row_refusal row (length s.table)) (asked (thickness_refusal n) v)) (clear_pass s Writing k t opened low high number out)
-    (asked_clear (put k t row n) (row_refusal row (length s.table)) (asked (thickness_refusal n) v) (clear_row row (length s.table) there)
-    (asked_clear (put k t row n) (thickness_refusal n) v (clear_thickness n some few) (inl refl)))
+judged_clear c s opened h = subst (Clear c) (sym (passed c s (unasked c s opened h))) (outcome_clear c s)
 
-pub obeyed_clear : (c : Call) (v : Verdict) (s z : State) (a : Answer) → Obeyed v s a z → Clear c v → (was_obeyed a ≡ true) ⊎ RefusedAsDamaged c a
-obeyed_clear c (refuse f) s z a x h = absurd h
-obeyed_clear c (line t r) s z a (x, y) h = inl (ap was_obeyed x)
-obeyed_clear c (at_once b w) s z a (x, y) h = subst (λ d. (was_obeyed d ≡ true) ⊎ RefusedAsDamaged c d) (sym x) h
+pub obeyed_clear : {M : Type 0} (does : Doing M) (c : Call) (v : Verdict) (s z : State) (m n : M) (a : Answer) → Obeyed does v s m a z n → Clear c v → (was_obeyed a ≡ true) ⊎ RefusedAsDamaged c a
+obeyed_clear does c (refuse f) s z m n a x h = absurd h
+obeyed_clear does c (line t r) s z m n a (x, y) h = inl (ap was_obeyed x)
+obeyed_clear does c (at_once b w) s z m n a (x, y, same) h = subst (λ d. (was_obeyed d ≡ true) ⊎ RefusedAsDamaged c d) (sym x) h

@@ -138,7 +138,7 @@ pub record Due (s : State) (t : ℕ) (r : Record) : Type 0 where
   pub leads : Leads (t - 1) (record_of s t).track r.track next
   pub account : r.account ≡ account_of_call next (record_of s t).account
   pub ordered : in_order r ≡ true
-  pub on_line : advance_refusal r ≡ None
+  pub stands : r.track.place ≡ Next next
 
 -- what the questions on a task and on a pass tell
 
@@ -169,20 +169,20 @@ module _ (s : State) (t : ℕ) (g : Lawful s) where
   due_begin there free =
       let (low, high) = task_there s t there in
       let k = r.track in
-      record { low = low; high = high; next = begin_line k.role; leads = begin_leads (t - 1) k.prev k.curr k.d k.x k.place k.role k.standing r.account.finished free; account = begin_account k.role r.account; ordered = begun_in_order r (g.ordered (t - 1)) free; on_line = refl }
+      record { low = low; high = high; next = begin_line k.role; leads = begin_leads (t - 1) k.prev k.curr k.d k.x k.place k.role k.standing r.account.finished free; account = begin_account k.role r.account; ordered = begun_in_order r (g.ordered (t - 1)) free; stands = refl }
 
   pub due_advance : task_refusal s t ≡ None → advance_refusal r ≡ None → Due s t r
   due_advance there on =
       let (low, high) = task_there s t there in
       let k = r.track in
       let (l, leads, later, is) = advance_leads (t - 1) k.prev k.curr k.d k.x _ k.place k.role k.standing (g.holds.one (t - 1)) on in
-      record { low = low; high = high; next = l; leads = leads; account = later_account l r.account later; ordered = g.ordered (t - 1); on_line = on }
+      record { low = low; high = high; next = l; leads = leads; account = later_account l r.account later; ordered = g.ordered (t - 1); stands = is }
 
   pub due_upgrade : Holding s Reading t → upgrade_refusal r ≡ None → Due s t (upgrading r)
-  due_upgrade p few = let k = r.track in record { low = p.low; high = p.high; next = L27p1; leads = upgrade_leads (t - 1) k.prev k.curr k.d k.x k.place k.role k.standing p.right; account = refl; ordered = upgrading_in_order r (g.ordered (t - 1)) p.out few; on_line = refl }
+  due_upgrade p few = let k = r.track in record { low = p.low; high = p.high; next = L27p1; leads = upgrade_leads (t - 1) k.prev k.curr k.d k.x k.place k.role k.standing p.right; account = refl; ordered = upgrading_in_order r (g.ordered (t - 1)) p.out few; stands = refl }
 
   pub due_downgrade : Holding s Writing t → Due s t (downgrading r)
-  due_downgrade p = let k = r.track in record { low = p.low; high = p.high; next = downgrade_line k.standing; leads = downgrade_leads (t - 1) k.prev k.curr k.d k.x k.place k.role k.standing p.right; account = downgrade_account k.standing r.account; ordered = downgrading_in_order r (g.ordered (t - 1)) p.out; on_line = refl }
+  due_downgrade p = let k = r.track in record { low = p.low; high = p.high; next = downgrade_line k.standing; leads = downgrade_leads (t - 1) k.prev k.curr k.d k.x k.place k.role k.standing p.right; account = downgrade_account k.standing r.account; ordered = downgrading_in_order r (g.ordered (t - 1)) p.out; stands = refl }
 
   pub due_leave : (w : Right) → Holding s w t → Due s t (leaving r)
-  due_leave w p = let k = r.track in record { low = p.low; high = p.high; next = leave_line k.role k.standing; leads = leave_leads (t - 1) k.prev k.curr k.d k.x k.place k.role k.standing w p.right; account = leave_account k.role k.standing r.account; ordered = leaving_in_order r w (g.ordered (t - 1)) p.out; on_line = refl }
+  due_leave w p = let k = r.track in record { low = p.low; high = p.high; next = leave_line k.role k.standing; leads = leave_leads (t - 1) k.prev k.curr k.d k.x k.place k.role k.standing w p.right; account = leave_account k.role k.standing r.account; ordered = leaving_in_order r w (g.ordered (t - 1)) p.out; stands = refl }

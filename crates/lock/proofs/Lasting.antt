@@ -11,6 +11,7 @@ use Rattle.lines.specs.Deeds.{cells_after, finds, waiting_after}
 use Rattle.lines.specs.Lines.{deed_of, next_deed, settle}
 use Rattle.calls.specs.declared.record.Record.{Record}
 use Rattle.calls.specs.Census.{tasks_that}
+use Rattle.calls.specs.Questions.{advance_refusal_at}
 use Rattle.calls.specs.Records.{in_order, settled, with_out}
 use Rattle.calls.specs.States.{State, record_of, with_record}
 use Rattle.calls.specs.Steps.{after_deed}
@@ -56,7 +57,7 @@ line_lawful s t r share g d =
       opened = g.opened;
       some = omega (arith, length-set rs i y, g.some);
       few = omega (arith, length-set rs i y, g.few);
-      ordered = ordered_set rs i y g.ordered (settled_in_order r (finds due t s.cells s.waiting) share d.ordered d.on_line);
+      ordered = ordered_set rs i y g.ordered (settled_in_order r (finds due t s.cells s.waiting) share d.ordered (ap advance_refusal_at d.stands));
       holds = subst (λ p. Holds (cells_after p s.cells) (waiting_after p t s.waiting) (set rs i y)) (sym same) kept;
     }
 

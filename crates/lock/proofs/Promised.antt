@@ -39,12 +39,11 @@ use Rattle.lock.specs.Runs.{Made, Run}
 use Rattle.lock.proofs.Decided.{decided}
 use Rattle.lock.proofs.Facts.{OneTask, TwoTasks, seen, seen_cells}
 use Rattle.lock.proofs.Charged.{charged_account}
-use Rattle.lock.proofs.Histories.{counts, granted, may_read, passes, refused}
+use Rattle.lock.proofs.Histories.{call_left, counts, granted, may_read, passes}
 use Rattle.lock.proofs.Holds.{Holds, at}
 use Rattle.lock.proofs.Judged.{Lawful, pass_there}
 use Rattle.lock.proofs.Measured.{reads}
 use Rattle.lock.proofs.RowRuns.{of_row, read_told, run_row, table_still}
-use Rattle.lock.proofs.OneLines.{call_did}
 use Rattle.lock.proofs.Recorded.{told}
 use Rattle.lock.proofs.Runs.{Able, call_kept, excluded, no_right_beside, run_able, section_with_right}
 use Rattle.lock.proofs.SoundRuns.{sound, unbroken}
@@ -108,8 +107,8 @@ module _ {M : Type 0} (does : Doing M) (limit : ℕ) (s : State) (m : M) (number
         counted_accounts = λ es z n run t low. counts does limit s first g _ es z m n run t low;
         charged_accounts = λ es z n run c a y p call. charged_account does limit c z y n p a (able es z n run) call;
         own_refusals = λ es z n run c a y p call. (call_kept does limit c z y n p a (able es z n run) call).own;
-        refused_calls = λ es z n run c a y p call o. refused does limit c z y n p a (able es z n run) call o;
-        one_line = λ es z n run c a y p call. call_did does limit c z y n p a (able es z n run) call;
+        refused_calls = λ es z n run c a y p call o. (call_left does limit c z y n p a (able es z n run) call).refused o;
+        one_line = λ es z n run c a y p call. (call_left does limit c z y n p a (able es z n run) call).did;
         soundness = λ es z n run. let k = (able es z n run).lawful in (sound z k, unbroken z k, numbered);
         lines_decide = λ es z n run. decided does limit _ es s z m n g run ∙ ap (model_run es) free;
       }

@@ -16,15 +16,8 @@ put_showing p row thickness = put p.lock p.task row thickness
 
 -- a call leaves in a row what stood there, but for an obeyed put into it
 abbrev pub left_in : ℕ → Call → Answer → ℕ → ℕ
-left_in row (begin t) a v = v
-left_in row (advance t) a v = v
-left_in row (take w t) a v = v
-left_in row (lay_back w k t) a v = v
-left_in row (upgrade k t) a v = v
-left_in row (downgrade k t) a v = v
-left_in row (leave w k t) a v = v
-left_in row (read w k t r) a v = v
 left_in row (put k t r number) a v = cond (was_obeyed a && (r == row)) number v
+left_in row c a v = v
 
 -- the number last put into a row by these calls, or v if none was
 abbrev pub last_put : ℕ → List Made → ℕ → ℕ
