@@ -74,13 +74,8 @@ pub record Paid (c : Cells) (a : Task) (m : Purse) : Type 0 where
 -- the units that a deed costs a task with these copies
 abbrev pub charge : Deed → (ℕ → ℕ) → ℕ
 charge (Touch (Read c)) copies = 1 - copies c
-charge (Touch (Write c n)) copies = 1
-charge (Touch (Add c s)) copies = 1
-charge (Touch (Swap c e n)) copies = 1
-charge Join copies = 0
-charge First copies = 0
-charge Quit copies = 0
-charge Nothing copies = 0
+charge (Touch op) copies = 1
+charge d copies = 0
 
 -- the copies of the task after its own deed
 abbrev pub own_copies : Deed → (ℕ → ℕ) → ℕ → ℕ
@@ -88,21 +83,14 @@ own_copies (Touch (Read c)) copies k = cond (eqb c k) 1 (copies k)
 own_copies (Touch (Write c n)) copies k = cond (eqb c k) 0 (copies k)
 own_copies (Touch (Add c s)) copies k = cond (eqb c k) 0 (copies k)
 own_copies (Touch (Swap c e n)) copies k = cond (eqb c k) 0 (copies k)
-own_copies Join copies k = copies k
-own_copies First copies k = copies k
-own_copies Quit copies k = copies k
-own_copies Nothing copies k = copies k
+own_copies d copies k = copies k
 
 -- the copies of any other task after that deed
 abbrev pub other_copies : Deed → (ℕ → ℕ) → ℕ → ℕ
-other_copies (Touch (Read c)) copies k = copies k
 other_copies (Touch (Write c n)) copies k = cond (eqb c k) 0 (copies k)
 other_copies (Touch (Add c s)) copies k = cond (eqb c k) 0 (copies k)
 other_copies (Touch (Swap c e n)) copies k = cond (eqb c k) 0 (copies k)
-other_copies Join copies k = copies k
-other_copies First copies k = copies k
-other_copies Quit copies k = copies k
-other_copies Nothing copies k = copies k
+other_copies d copies k = copies k
 
 -- what the call that does the line makes of the account before it: begin resets it, upgrade and downgrade count
 abbrev pub account_before : Line → Units → Units
@@ -161,23 +149,5 @@ module _ (C D G X P U V i prev curr d x : ℕ) (p : Place) (s : Standing) (accou
   payer_kept L27p5 o ws f m k = elim (cases_eq U 1) [ inl same ↦ rw (eq-eqb U 1 same) (grind arith) | inr other ↦ rw (ne_eqb U 1 other) (grind arith) ]
   payer_kept l o ws f m k = grind arith
 
-  -- a deed that only reads or asks leaves the cells and the copies of others as they are
   pub others_kept : (l : Line) (o : Role) (ws : List ℕ) → OthersKept l o ws
-  others_kept L0p2 o ws f m b theirs held t k = k
-  others_kept L1 o ws f m b theirs held t k = k
-  others_kept L2 o ws f m b theirs held t k = k
-  others_kept L6 o ws f m b theirs held t k = k
-  others_kept L9 o ws f m b theirs held t k = k
-  others_kept L10 o ws f m b theirs held t k = k
-  others_kept L12 o ws f m b theirs held t k = k
-  others_kept L13 o ws f m b theirs held t k = k
-  others_kept L17 o ws f m b theirs held t k = k
-  others_kept L18 o ws f m b theirs held t k = k
-  others_kept L19 o ws f m b theirs held t k = k
-  others_kept L21 o ws f m b theirs held t k = k
-  others_kept L22 o ws f m b theirs held t k = k
-  others_kept L22p1 o ws f m b theirs held t k = k
-  others_kept L22p2 o ws f m b theirs held t k = k
-  others_kept L27p1 o ws f m b theirs held t k = k
-  others_kept L27p3 o ws f m b theirs held t k = k
   others_kept l o ws f m b theirs held t k = grind arith

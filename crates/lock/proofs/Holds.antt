@@ -99,10 +99,7 @@ after_seven (Swap c e n) cs = grind (arith, length-set)
 
 pub deed_seven : (d : Deed) (cs : List ℕ) → length (cells_after d cs) ≡ length cs
 deed_seven (Touch op) cs = after_seven op cs
-deed_seven Join cs = refl
-deed_seven First cs = refl
-deed_seven Quit cs = refl
-deed_seven Nothing cs = refl
+deed_seven d cs = refl
 
 -- The record at place i is replaced by r.
 module _ (rs : List Record) (i : ℕ) (r : Record) (h : i < length rs) where
@@ -132,20 +129,16 @@ module _ (rs : List Record) (i : ℕ) (r : Record) (h : i < length rs) where
 
   module _ (c : Cells) where
     queue_waits : (d : Deed) (ws : List ℕ) → c.head ≡ get_or ws 0 0 → Fits d c old new → All (Waits rs) ws → Distinct ws → All (Waits (set rs i r)) (waiting_after d (suc i) ws)
-    queue_waits (Touch op) ws _ f w d = All-weaker (Waits rs) _ (waits_same f) ws w
     queue_waits Join ws _ f w d = All-push (Waits (set rs i r)) ws (suc i) (All-weaker (Waits rs) _ (λ t k. waits_other t (rests_apart f.0 t k) k) ws w) (rw (get_or-set_same rs i r (fresh Reader) h) (omega arith, f.1, f.2))
-    queue_waits First ws _ f w d = All-weaker (Waits rs) _ (waits_same f) ws w
     queue_waits Quit [] _ f w d = tt
     queue_waits Quit (y ∷ ys) e f w d = waits_others ys (subst (λ (k : ℕ). All (λ z. z ≢ k) ys) (sym e ∙ f) d.0) w.1
-    queue_waits Nothing ws _ f w d = All-weaker (Waits rs) _ (waits_same f) ws w
+    queue_waits d ws _ f w _ = All-weaker (Waits rs) _ (waits_same f) ws w
 
     queue_distinct : (d : Deed) (ws : List ℕ) → Fits d c old new → All (Waits rs) ws → Distinct ws → Distinct (waiting_after d (suc i) ws)
-    queue_distinct (Touch op) ws f w d = d
     queue_distinct Join ws f w d = distinct_push ws (suc i) d (All-weaker (Waits rs) _ (λ t k. rests_apart f.0 t k) ws w)
-    queue_distinct First ws f w d = d
     queue_distinct Quit [] f w d = tt
     queue_distinct Quit (y ∷ ys) f w d = d.1
-    queue_distinct Nothing ws f w d = d
+    queue_distinct o ws f w d = d
 
 -- The oldest after a deed, if it is another task, waits.
 
@@ -157,13 +150,11 @@ head_waits rs [] w j e = absurd (omega arith)
 head_waits rs (y ∷ ys) w j e = let z = subst (Waits rs) (sym e) w.0 in (z.1, z.2)
 
 next_waits : (d : Deed) (rs : List Record) (i : ℕ) (ws : List ℕ) → All (Waits rs) ws → (j : ℕ) → j ≢ i → suc j ≡ get_or (waiting_after d (suc i) ws) 0 0 → IsWaiting rs j
-next_waits (Touch op) rs i ws w j n e = head_waits rs ws w j e
 next_waits Join rs i [] w j n e = absurd (omega arith)
 next_waits Join rs i (y ∷ ys) w j n e = head_waits rs (y ∷ ys) w j e
-next_waits First rs i ws w j n e = head_waits rs ws w j e
 next_waits Quit rs i [] w j n e = absurd (omega arith)
 next_waits Quit rs i (y ∷ ys) w j n e = head_waits rs ys w.1 j e
-next_waits Nothing rs i ws w j n e = head_waits rs ws w j e
+next_waits d rs i ws w j n e = head_waits rs ws w j e
 
 once : (ws : List ℕ) (i : ℕ) → Distinct ws → get_or ws 0 0 ≡ suc i → get_or ws 1 0 ≢ suc i
 once [] i d e = omega arith
