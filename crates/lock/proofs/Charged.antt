@@ -26,15 +26,11 @@ use Rattle.lock.proofs.OneLines.{line_is}
 module _ {M : Type 0} (does : Doing M) (limit : ℕ) where
   deed_tells : (d : Deed) (m n : M) (t share : ℕ) → Shares does m t d share n → TellsShare does m t d share n
   deed_tells (Touch op) m n t share h = h
-  deed_tells Join m n t share h = h
-  deed_tells First m n t share h = h
-  deed_tells Quit m n t share h = h
-  deed_tells Nothing m n t share h = h
+  deed_tells d m n t share h = h
 
   arrived_cost : (p : Place) (a : Account) → (arrived p a).cost ≡ a.cost
   arrived_cost Rest a = refl
-  arrived_cost Inside a = refl
-  arrived_cost (Next l) a = refl
+  arrived_cost p a = refl
 
   -- the share that was told of the call, and what it makes of each cost
   abbrev Costs : Call → State → M → Answer → State → M → Type 0

@@ -65,8 +65,7 @@ backed_charge top share n a b less h = record { cost = omega (arith, times_sum t
 
 backed_arrived : (p : Place) (top : ℕ) (a : Account) (b : Units) → Backed top a b → Backed top (arrived p a) b
 backed_arrived Rest top a b h = record { cost = h.cost; u = h.u; g = h.g }
-backed_arrived Inside top a b h = h
-backed_arrived (Next l) top a b h = h
+backed_arrived p top a b h = h
 
 times_less : (k a b : ℕ) → a ≤ b → k * a ≤ k * b
 times_less zero a b h = omega arith

@@ -69,8 +69,7 @@ module _ (s : State) (t : ℕ) where
   arrived_unpaid : (p : Place) (a : Account) (share : ℕ) →
       (arrived p (charged (record { cost = 0; u = a.u; g = a.g; total = 0; finished = a.finished }) 0)) ≡ (let b = arrived p (charged a share) in record { cost = 0; u = b.u; g = b.g; total = 0; finished = b.finished })
   arrived_unpaid Rest a share = refl
-  arrived_unpaid Inside a share = refl
-  arrived_unpaid (Next l) a share = refl
+  arrived_unpaid p a share = refl
 
   settled_unpaid : (q : Record) (f : Found) (share : ℕ) → settled (unpaid_record q) f 0 ≡ unpaid_record (settled q f share)
   settled_unpaid q f share = ap (λ a. record { track = stepped q.track f; account = a; out = q.out }) (arrived_unpaid (stepped q.track f).place q.account share)

@@ -18,16 +18,15 @@ use Rattle.lock.specs.Charges.{unfinished}
 use Rattle.lock.specs.Needs.{RefusedAsDamaged, IsRefused, Needs, OnLine}
 use Rattle.lock.specs.Runs.{task_of, was_obeyed}
 use Rattle.lock.proofs.Asked.{Passed, outcome, passed}
-use Rattle.lock.proofs.Recorded.{told, some_none}
+use Rattle.lock.proofs.Recorded.{told}
 use Rattle.lock.proofs.Runs.{Obeyed}
 
 -- What the questions on a pass tell.
 
 pub same_is : (v w : Right) → same_right v w ≡ true → v ≡ w
 same_is Reading Reading h = refl
-same_is Reading Writing h = absurd (false≢true h)
-same_is Writing Reading h = absurd (false≢true h)
 same_is Writing Writing h = refl
+same_is v w h = cc
 
 pub same_itself : (w : Right) → same_right w w ≡ true
 same_itself Reading = refl
@@ -38,19 +37,16 @@ out_is None w h = absurd (false≢true h)
 out_is (Some v) w h = ap Some (same_is v w h)
 
 pub takes : (has out : Option Right) (w : Right) → take_refusal has out w ≡ None → (has ≡ Some w) × (out ≡ None)
-takes None out w h = absurd (some_none _ h)
-takes (Some v) (Some x) w h = absurd (some_none _ h)
 takes (Some v) None w h = (ap Some (same_is v w (yes (same_right v w) OtherRight None h).0), refl)
+takes has out w h = cc
 
 pub may_begin : (p : Place) (n : ℕ) → begin_refusal_at p n ≡ None → (p ≡ Rest) × (n + unfinished p < 1000000)
 may_begin Rest n h = (refl, let k = ltb-true n 1000000 (yes (ltb n 1000000) Finished None h).0 in omega arith)
-may_begin Inside n h = absurd (some_none _ h)
-may_begin (Next l) n h = absurd (some_none _ h)
+may_begin p n h = cc
 
 pub may_advance : (p : Place) → advance_refusal_at p ≡ None → OnLine p
-may_advance Rest h = absurd (some_none _ h)
-may_advance Inside h = absurd (some_none _ h)
 may_advance (Next l) h = (l, refl)
+may_advance p h = cc
 
 pub in_rows : (row rows : ℕ) → row_refusal row rows ≡ None → row < rows
 in_rows row rows h = ltb-true row rows (yes (ltb row rows) NoRow None h).0
@@ -88,8 +84,7 @@ clear_pass s w k t opened low high number e =
 
 pub clear_begin : (p : Place) (n : ℕ) → p ≡ Rest → n + unfinished p < 1000000 → begin_refusal_at p n ≡ None
 clear_begin Rest n e h = ap (λ b. ask b Finished None) (lt-ltb n 1000000 (omega arith))
-clear_begin Inside n e h = let z : ◌≡◌ {A = ℕ} 0 1 = cc in absurd (omega arith)
-clear_begin (Next l) n e h = let z : ◌≡◌ {A = ℕ} 0 1 = cc in absurd (omega arith)
+clear_begin p n e h = cc
 
 pub clear_take : (has out : Option Right) (w : Right) → has ≡ Some w → out ≡ None → take_refusal has out w ≡ None
 clear_take has out w e k = rw (e, k, same_itself w) refl

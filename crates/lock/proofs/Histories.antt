@@ -32,7 +32,7 @@ use Rattle.lock.proofs.Meant.{Meant, meant}
 use Rattle.lock.proofs.Runs.{Able, Obeyed, call_able, call_kept, no_right_beside, none_of, run_able}
 use Rattle.lock.proofs.Granted.{same_itself, takes, may_begin, may_advance, in_rows, is_thickness, shown, NeedsIn, told_row, judged_clear, obeyed_clear, unasked}
 use Rattle.lock.proofs.OneLines.{line_did, line_is}
-use Rattle.lock.proofs.Recorded.{told, says_of, arrived_told, cond_same, quiet_finishes, Away, moves, none_some, begins, away_unfinished, rests_before, on_line_away, right_away}
+use Rattle.lock.proofs.Recorded.{told, says_of, arrived_told, cond_same, quiet_finishes, Away, moves, begins, away_unfinished, rests_before, on_line_away, right_away}
 
 -- What a verdict says of the call that it is of.
 
@@ -200,7 +200,7 @@ fits_right : (z : State) (t : ℕ) (w : Right) → Lawful z → (record_of z t).
 fits_right z t w g e = let r = record_of z t in has_out (right_of r.track) r.out w (parts r (g.ordered (t - 1))).pass (ap (λ o. out_for o w) e ∙ same_itself w)
 
 none_beside : (z : State) (t u : ℕ) → Lawful z → 1 ≤ t → 1 ≤ u → t ≢ u → HasRight z t Writing → (record_of z u).out ≡ None
-none_beside z t u g low low' n w = none_of (record_of z u).out (λ v e. none_some v (sym (no_right_beside z t u g low low' n w) ∙ fits_right z u v g e))
+none_beside z t u g low low' n w = none_of (record_of z u).out (λ v e. let h = sym (no_right_beside z t u g low low' n w) ∙ fits_right z u v g e in cc)
 
 -- what stays over a run, and what it says of each task
 record Ran (es : List Made) (s z : State) : Type 0 where

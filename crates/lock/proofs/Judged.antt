@@ -34,12 +34,6 @@ pub record Leads (i : ℕ) (r q : Track) (l : Line) : Type 0 where
   pub deed : (t : ℕ) → next_deed t q ≡ deed_of l t r
   pub steps : (f : Found) → stepped q f ≡ settle l r f
 
-none_is_some : {A : Type 0} (x : A) → ◌≡◌ {A = Option A} (Some x) None → ⊥
-none_is_some x h = let z : ◌≡◌ {A = ℕ} 0 1 = cc in omega arith
-
-some_is_none : {A : Type 0} (x : A) → ◌≡◌ {A = Option A} None (Some x) → ⊥
-some_is_none x h = let z : ◌≡◌ {A = ℕ} 0 1 = cc in omega arith
-
 module _ (i prev curr d x : ℕ) where
   abbrev track : Place → Role → Standing → Track
   track p o s = record { role = o; place = p; standing = s; prev = prev; curr = curr; d = d; x = x }
@@ -47,45 +41,35 @@ module _ (i prev curr d x : ℕ) where
   pub begin_leads : (p : Place) (o : Role) (s : Standing) (finished : ℕ) → begin_refusal_at p finished ≡ None → Leads i (track p o s) (goes (track p o s) (begin_line o)) (begin_line o)
   begin_leads Rest Reader s finished h = record { before = (refl, refl); deed = λ t. refl; steps = λ f. refl }
   begin_leads Rest Writer s finished h = record { before = (refl, refl); deed = λ t. refl; steps = λ f. refl }
-  begin_leads Inside o s finished h = absurd (none_is_some _ h)
-  begin_leads (Next l) o s finished h = absurd (none_is_some _ h)
+  begin_leads p o s finished h = cc
 
   on_line : (c : Cells) (l : Line) (o : Role) (s : Standing) → OneTask c (seen i (track (Next l) o s)) → Before l (seen i (track (Next l) o s))
   on_line c l o s m = grind arith
 
   pub advance_leads : (c : Cells) (p : Place) (o : Role) (s : Standing) → OneTask c (seen i (track p o s)) → advance_refusal_at p ≡ None → (l : Line) × Leads i (track p o s) (track p o s) l × (rank_of_line l ≤ 39) × (p ≡ Next l)
-  advance_leads c Rest o s m h = absurd (none_is_some _ h)
-  advance_leads c Inside o s m h = absurd (none_is_some _ h)
   advance_leads c (Next l) o s m h = (l, record { before = on_line c l o s m; deed = λ t. refl; steps = λ f. refl }, m.known_rank, refl)
+  advance_leads c p o s m h = cc
 
   pub upgrade_leads : (p : Place) (o : Role) (s : Standing) → right_at p o s ≡ Some Reading → Leads i (track p o s) (goes (track p o s) upgrade_line) L27p1
-  upgrade_leads Rest o s h = absurd (some_is_none _ h)
   upgrade_leads Inside Reader Normal h = record { before = (omega arith, omega arith, refl); deed = λ t. refl; steps = λ f. refl }
-  upgrade_leads Inside Writer Normal h = let z : ◌≡◌ {A = ℕ} 0 1 = cc in absurd (omega arith)
-  upgrade_leads Inside o Upgraded h = let z : ◌≡◌ {A = ℕ} 0 1 = cc in absurd (omega arith)
   upgrade_leads Inside Reader Downgraded h = record { before = (omega arith, omega arith, refl); deed = λ t. refl; steps = λ f. refl }
   upgrade_leads Inside Writer Downgraded h = record { before = (omega arith, omega arith, refl); deed = λ t. refl; steps = λ f. refl }
-  upgrade_leads (Next l) o s h = absurd (some_is_none _ h)
+  upgrade_leads p o s h = cc
 
   pub downgrade_leads : (p : Place) (o : Role) (s : Standing) → right_at p o s ≡ Some Writing → Leads i (track p o s) (goes (track p o s) (downgrade_line s)) (downgrade_line s)
-  downgrade_leads Rest o s h = absurd (some_is_none _ h)
-  downgrade_leads Inside Reader Normal h = let z : ◌≡◌ {A = ℕ} 0 1 = cc in absurd (omega arith)
   downgrade_leads Inside Writer Normal h = record { before = refl; deed = λ t. refl; steps = λ f. refl }
   downgrade_leads Inside Reader Upgraded h = record { before = refl; deed = λ t. refl; steps = λ f. refl }
   downgrade_leads Inside Writer Upgraded h = record { before = refl; deed = λ t. refl; steps = λ f. refl }
-  downgrade_leads Inside Reader Downgraded h = let z : ◌≡◌ {A = ℕ} 0 1 = cc in absurd (omega arith)
-  downgrade_leads Inside Writer Downgraded h = let z : ◌≡◌ {A = ℕ} 0 1 = cc in absurd (omega arith)
-  downgrade_leads (Next l) o s h = absurd (some_is_none _ h)
+  downgrade_leads p o s h = cc
 
   pub leave_leads : (p : Place) (o : Role) (s : Standing) (w : Right) → right_at p o s ≡ Some w → Leads i (track p o s) (goes (track p o s) (leave_line o s)) (leave_line o s)
-  leave_leads Rest o s w h = absurd (some_is_none _ h)
   leave_leads Inside Reader Normal w h = record { before = (omega arith, omega arith, refl); deed = λ t. refl; steps = λ f. refl }
   leave_leads Inside Writer Normal w h = record { before = refl; deed = λ t. refl; steps = λ f. refl }
   leave_leads Inside Reader Upgraded w h = record { before = refl; deed = λ t. refl; steps = λ f. refl }
   leave_leads Inside Writer Upgraded w h = record { before = refl; deed = λ t. refl; steps = λ f. refl }
   leave_leads Inside Reader Downgraded w h = record { before = (omega arith, omega arith, refl); deed = λ t. refl; steps = λ f. refl }
   leave_leads Inside Writer Downgraded w h = record { before = (refl, refl); deed = λ t. refl; steps = λ f. refl }
-  leave_leads (Next l) o s w h = absurd (some_is_none _ h)
+  leave_leads p o s w h = cc
 
 -- what the call of a line makes of the account before it: begin starts it anew, upgrade and downgrade count
 abbrev pub account_of_call : Line → Account → Account

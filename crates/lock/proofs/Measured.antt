@@ -9,7 +9,7 @@ use Rattle.lock.specs.Rows.{Reads}
 at_zero : (a : Answer) (n : ℕ) → a ≡ gives None → n ≡ 0 → Reads n a
 at_zero a n e z =
     record {
-      thickness = λ v h. absurd (let k : ◌≡◌ {A = ℕ} 0 1 = cc in omega arith);
+      thickness = λ v h. cc;
       measured = λ low high. absurd (omega arith);
       unmeasured = (λ h. z, λ h. e);
       damaged = (λ h. absurd (subst (λ x. IsRefused x 32) e h), λ h. absurd (omega arith));
@@ -20,16 +20,16 @@ within a n e low high =
     record {
       thickness = λ v h. let k : v ≡ n = cc in record { some = omega arith; few = omega arith; same = k };
       measured = λ x y. e;
-      unmeasured = (λ h. absurd (let k : ◌≡◌ {A = ℕ} 0 1 = cc in omega arith), λ h. absurd (omega arith));
+      unmeasured = (λ h. cc, λ h. absurd (omega arith));
       damaged = (λ h. absurd (subst (λ x. IsRefused x 32) e h), λ h. absurd (omega arith));
     }
 
 above : (a : Answer) (n : ℕ) → a ≡ no Stored → 1000000 < n → Reads n a
 above a n e high =
     record {
-      thickness = λ v h. absurd (let k : ◌≡◌ {A = ℕ} 0 1 = cc in omega arith);
+      thickness = λ v h. cc;
       measured = λ x y. absurd (omega arith);
-      unmeasured = (λ h. absurd (let k : ◌≡◌ {A = ℕ} 0 1 = cc in omega arith), λ h. absurd (omega arith));
+      unmeasured = (λ h. cc, λ h. absurd (omega arith));
       damaged = (λ h. high, λ h. subst (λ x. IsRefused x 32) (sym e) refl);
     }
 

@@ -21,7 +21,6 @@ use Rattle.calls.specs.declared.refusal.Refusal.{Refusal}
 use Rattle.lock.specs.declared.locks.Lock.{Lock}
 use Rattle.lock.specs.MayOpen.{MayOpen}
 use Rattle.lock.specs.View.{open_refused, records_of, view}
-use Rattle.lock.proofs.Recorded.{none_some, some_none}
 use Rattle.calls.specs.declared.refusal.Refusal.TheVariants.{Ceiling, Limit, Opened, Queued, Role as NotRole, Roles}
 use Rattle.calls.specs.declared.rule.Rule.{Rule}
 use Rattle.calls.specs.Rules.{rule_number}
@@ -59,18 +58,13 @@ no_history s roles new t = let (o, is) = first_record roles (t - 1) in ap (λ rs
 -- Rights by place, role and standing.
 
 inside_at : (p : Place) (o : Role) (s : Standing) → ((w : Right) × (right_at p o s ≡ Some w)) ↔ p ≡ Inside
-inside_at Rest o s = (λ h. absurd (none_some h.0 h.1), λ e. absurd (let k : ◌≡◌ {A = ℕ} 0 1 = cc in omega arith))
 inside_at Inside o s = (λ h. refl, λ e. (right_inside o s, refl))
-inside_at (Next l) o s = (λ h. absurd (none_some h.0 h.1), λ e. absurd (let k : ◌≡◌ {A = ℕ} 0 1 = cc in omega arith))
+inside_at p o s = (λ h. let k = h.1 in cc, λ e. cc)
 
 writing_at : (p : Place) (o : Role) (s : Standing) → right_at p o s ≡ Some Writing → (p ≡ Inside) × ((s ≡ Upgraded) ⊎ ((o ≡ Writer) × (s ≡ Normal)))
-writing_at Rest o s h = absurd (none_some Writing h)
 writing_at Inside o Upgraded h = (refl, inl refl)
 writing_at Inside Writer Normal h = (refl, inr (refl, refl))
-writing_at Inside Reader Normal h = absurd (let k : ◌≡◌ {A = ℕ} 0 1 = cc in omega arith)
-writing_at Inside Reader Downgraded h = absurd (let k : ◌≡◌ {A = ℕ} 0 1 = cc in omega arith)
-writing_at Inside Writer Downgraded h = absurd (let k : ◌≡◌ {A = ℕ} 0 1 = cc in omega arith)
-writing_at (Next l) o s h = absurd (none_some Writing h)
+writing_at p o s h = cc
 
 may_write_at : (p : Place) (o : Role) (s : Standing) → (p ≡ Inside) × ((s ≡ Upgraded) ⊎ ((o ≡ Writer) × (s ≡ Normal))) → right_at p o s ≡ Some Writing
 may_write_at p o s (e, inl k) = ap (λ q. right_at q o s) e ∙ ap (right_at Inside o) k
@@ -156,15 +150,18 @@ no_one_waits : (ws : List ℕ) → length ws ≡ 0 → ws ≡ []
 no_one_waits [] e = refl
 no_one_waits (x ∷ xs) e = absurd (omega arith)
 
--- what opening asked
-pub record Asked (limit : ℕ) (s : State) (roles : List ℕ) : Type 0 where
+-- what opening asks, by the questions themselves
+pub record Asked (limit top : ℕ) (s : State) (roles : List ℕ) : Type 0 where
+  pub closed : not s.opened ≡ true
   pub some : 1 ≤ length roles
   pub few : length roles ≤ 64
+  pub each : are_roles roles ≡ true
   pub two : 2 ≤ limit
   pub fits : length roles ≤ limit
+  pub ceiling : top ≤ 1000
   pub empty : s.waiting ≡ []
 
-pub asked : (limit ceiling : ℕ) (s : State) (roles : List ℕ) → open_refusal limit ceiling s roles ≡ None → Asked limit s roles
+pub asked : (limit ceiling : ℕ) (s : State) (roles : List ℕ) → open_refusal limit ceiling s roles ≡ None → Asked limit ceiling s roles
 asked limit ceiling s roles none =
     let n = length roles in
     let q1 = yes (not s.opened) Opened _ none in
@@ -175,7 +172,7 @@ asked limit ceiling s roles none =
     let q6 = yes (leb n limit) Limit _ q5.1 in
     let q7 = yes (leb ceiling 1000) Ceiling _ q6.1 in
     let q8 = yes (eqb (length s.waiting) 0) Queued None q7.1 in
-    record { some = leb-true 1 n q2.0; few = leb-true n 64 q3.0; two = leb-true 2 limit q5.0; fits = leb-true n limit q6.0; empty = no_one_waits s.waiting (eqb-true (length s.waiting) 0 q8.0) }
+    record { closed = q1.0; some = leb-true 1 n q2.0; few = leb-true n 64 q3.0; each = q4.0; two = leb-true 2 limit q5.0; fits = leb-true n limit q6.0; ceiling = leb-true ceiling 1000 q7.0; empty = no_one_waits s.waiting (eqb-true (length s.waiting) 0 q8.0) }
 
 module _ (limit ceiling : ℕ) (s z : State) (roles : List ℕ) (none : open_refusal limit ceiling s roles ≡ None) (is : z ≡ opened_to roles s) where
   abbrev first : State
@@ -225,26 +222,8 @@ all_roles (b ∷ bs) h = and_from (is_role b) (are_roles bs) (a_role b (h 0 (ome
 module _ {M Q : Type 0} (mem : MemoryGhosts M) (que : QueueGhosts Q) (l : Lock M Q) (roles : List ℕ) where
   may_open : open_refused mem que l roles ≡ None → MayOpen mem que l roles
   may_open none =
-      let n = length roles in
-      let rs = records_of l.records in
-      let q1 = yes (not (ltb 0 (length rs))) Opened _ none in
-      let q2 = yes (leb 1 n) Roles _ q1.1 in
-      let q3 = yes (leb n 64) Roles _ q2.1 in
-      let q4 = yes (are_roles roles) NotRole _ q3.1 in
-      let q5 = yes (leb 2 mem.limit) Limit _ q4.1 in
-      let q6 = yes (leb n mem.limit) Limit _ q5.1 in
-      let q7 = yes (leb (mem.top l.memory) 1000) Ceiling _ q6.1 in
-      let q8 = yes (eqb (length (que.waiting l.queue)) 0) Queued None q7.1 in
-      record {
-        closed = no_task (length rs) q1.0;
-        some = leb-true 1 n q2.0;
-        few = leb-true n 64 q3.0;
-        each = role_bytes roles q4.0;
-        two = leb-true 2 mem.limit q5.0;
-        fits = leb-true n mem.limit q6.0;
-        ceiling = leb-true (mem.top l.memory) 1000 q7.0;
-        empty = no_one_waits (que.waiting l.queue) (eqb-true (length (que.waiting l.queue)) 0 q8.0);
-      }
+      let k = asked mem.limit (mem.top l.memory) (view mem que l) roles none in
+      record { closed = no_task (length (records_of l.records)) k.closed; some = k.some; few = k.few; each = role_bytes roles k.each; two = k.two; fits = k.fits; ceiling = k.ceiling; empty = k.empty }
     where
       no_task : (n : ℕ) → not (ltb 0 n) ≡ true → n ≡ 0
       no_task n h = grind arith
@@ -257,4 +236,4 @@ module _ {M Q : Type 0} (mem : MemoryGhosts M) (que : QueueGhosts Q) (l : Lock M
   -- open is obeyed exactly where it has what it needs
   pub opened_where : (o : Option Refusal) (z : State) (n : M) (r : Result (Unit {0}) Refusal) → open_refused mem que l roles ≡ o → Opens mem.does o (view mem que l) l.memory roles r z n → IsOk r ↔ MayOpen mem que l roles
   opened_where None z n r none (ok, w, is) = (λ h. may_open none, λ h. subst IsOk (sym ok) refl)
-  opened_where (Some e) z n r some (err, same, k) = (λ h. absurd (false≢true (subst IsOk err h)), λ h. absurd (some_none e (sym some ∙ open_clear h)))
+  opened_where (Some e) z n r some (err, same, k) = (λ h. absurd (false≢true (subst IsOk err h)), λ h. let k = sym some ∙ open_clear h in cc)
