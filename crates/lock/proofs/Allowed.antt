@@ -1,5 +1,5 @@
 -- No line that is due is refused by the memory or the queue, where the limit is at least 2 and at least the number of tasks.
-use Rattle.std.proofs.Common.{◌≡◌, ℕ, suc, ◌+◌, ◌-◌, ◌<◌, ◌≤◌, true, false, eqb, ltb, ◌≢◌, List, [], ◌∷◌, length, get_or, None, sym, refl, subst, arith}
+use Rattle.std.proofs.Common.{◌≡◌, ℕ, suc, ◌+◌, ◌-◌, ◌<◌, ◌≤◌, true, false, eqb, ◌≢◌, List, [], ◌∷◌, length, get_or, None, sym, refl, subst, arith}
 use Rattle.std.specs.List.{AllByRecursion as All}
 use Rattle.std.proofs.ByRecursion.{All-weaker}
 use Rattle.std.proofs.lemmas.Bool.{eq-eqb, le-leb, lt-ltb, ne_eqb, or_from}
@@ -9,9 +9,9 @@ use Rattle.queue.specs.Waiting.{oldest, waits}
 use Rattle.lines.specs.declared.deed.Deed.{Deed}
 use Rattle.lines.specs.declared.deed.Deed.TheVariants.{Touch, Join, First, Quit, Nothing}
 use Rattle.lines.specs.declared.place.Line.{Line}
-use Rattle.lines.specs.declared.place.Line.TheVariants.{L0p1, L0p2, L1, L2, L3, L4, L6, L7, L8, L9, L10, L11, L12, L13, L14, L15, L16, L16p1, L17, L18, L19, L20, L21, L22, L22p1, L22p2, L23, L25p1, L25p2, L25p3, L26p1, L27p1, L27p2, L27p3, L27p4, L27p5, Down28p1, Down28p2, L28p1, L28p2, L29p2, L32p1}
+use Rattle.lines.specs.declared.place.Line.TheVariants.{L0p1}
 use Rattle.lines.specs.declared.track.Track.{Track}
-use Rattle.lines.specs.Lines.{C, D, Gate, Permit, U, V, X, deed_of, next_deed}
+use Rattle.lines.specs.Lines.{deed_of, next_deed}
 use Rattle.calls.specs.declared.record.Record.{Record}
 use Rattle.calls.specs.States.{State, record_of}
 use Rattle.calls.specs.Steps.{deed_refusal}

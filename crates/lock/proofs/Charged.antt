@@ -1,10 +1,10 @@
 -- What a call costs: the share that the memory told of its line, charged to its task alone.
-use Rattle.std.proofs.Common.{◌≡◌, ℕ, ◌-◌, ◌≤◌, cond, ◌&&◌, eqb, Some, None, sym, refl, ap, ◌∙◌, subst}
+use Rattle.std.proofs.Common.{◌≡◌, ℕ, ◌-◌, ◌≤◌, cond, ◌&&◌, eqb, None, sym, refl, ap, ◌∙◌, subst}
 use Rattle.memory.specs.Calls.{Doing}
 use Rattle.lines.specs.declared.deed.Deed.{Deed}
-use Rattle.lines.specs.declared.deed.Deed.TheVariants.{Touch, Join, First, Quit, Nothing}
+use Rattle.lines.specs.declared.deed.Deed.TheVariants.{Touch}
 use Rattle.lines.specs.declared.place.Place.{Place}
-use Rattle.lines.specs.declared.place.Place.TheVariants.{Rest, Inside, Next}
+use Rattle.lines.specs.declared.place.Place.TheVariants.{Rest}
 use Rattle.lines.specs.Deeds.{finds}
 use Rattle.lines.specs.Lines.{next_deed}
 use Rattle.calls.specs.declared.account.Account.{Account}
@@ -12,14 +12,14 @@ use Rattle.calls.specs.declared.record.Record.{Record}
 use Rattle.calls.specs.Accounts.{charged}
 use Rattle.calls.specs.Records.{arrived, settled}
 use Rattle.calls.specs.States.{State, record_of}
-use Rattle.calls.specs.Steps.{Answer, Call, Calls, Carried, LineShares, Shares, Verdict, after_deed, at_once, done, judge, line, lined, refuse}
+use Rattle.calls.specs.Steps.{Answer, Call, Calls, Shares, Verdict, at_once, judge, line, refuse}
 use Rattle.lock.specs.Charges.{Charges, TellsShare, cost_after, cost_made}
 use Rattle.lock.specs.Runs.{task_of, was_obeyed}
 use Rattle.lock.proofs.Meant.{Meant, meant}
 use Rattle.lock.proofs.Runs.{Able, Obeyed, call_kept}
 use Rattle.lock.proofs.Recorded.{cond_same}
 use Rattle.lines.specs.Lines.{deed_of}
-use Rattle.lock.specs.OneLine.{deed_done, deed_for, line_done, line_of}
+use Rattle.lock.specs.OneLine.{deed_done, deed_for, line_done}
 use Rattle.lock.proofs.Histories.{Says, call_left, call_says, replaced_by}
 use Rattle.lock.proofs.OneLines.{line_is}
 

@@ -4,21 +4,20 @@ use Rattle.memory.specs.Calls.{Doing}
 use Rattle.lines.specs.declared.deed.Deed.{Deed}
 use Rattle.lines.specs.declared.deed.Found.{Found}
 use Rattle.lines.specs.declared.place.Place.{Place}
-use Rattle.lines.specs.declared.place.Place.TheVariants.{Rest, Inside, Next}
+use Rattle.lines.specs.declared.place.Place.TheVariants.{Rest}
 use Rattle.lines.specs.declared.place.Right.{Right}
 use Rattle.lines.specs.declared.place.Right.TheVariants.{Reading, Writing}
 use Rattle.lines.specs.declared.place.Role.TheVariants.{Reader}
 use Rattle.lines.specs.Deeds.{finds}
 use Rattle.lines.specs.Lines.{next_deed, stepped}
-use Rattle.lines.specs.Rights.{right_of}
 use Rattle.calls.specs.declared.account.Account.{Account}
 use Rattle.calls.specs.declared.record.Record.{Record}
 use Rattle.calls.specs.declared.refusal.Refusal.{Refusal}
 use Rattle.calls.specs.Accounts.{charged}
-use Rattle.calls.specs.Questions.{advance_refusal, begin_refusal, pass_refusal, row_refusal, take_refusal, task_refusal, thickness_refusal, upgrade_refusal}
+use Rattle.calls.specs.Questions.{pass_refusal, row_refusal, task_refusal, thickness_refusal, upgrade_refusal}
 use Rattle.calls.specs.Records.{arrived, begun, downgrading, fresh, leaving, settled, upgrading, with_out}
-use Rattle.calls.specs.States.{State, record_of, with_record, with_row}
-use Rattle.calls.specs.Steps.{Answer, Call, Verdict, advance, after_deed, asked, at_once, begin, done, downgrade, hands, judge, lay_back, leave, line, put, read, refuse, row_answer, take, upgrade}
+use Rattle.calls.specs.States.{State, record_of, with_record}
+use Rattle.calls.specs.Steps.{Answer, Call, Verdict, advance, after_deed, at_once, begin, done, downgrade, hands, judge, lay_back, leave, line, put, read, refuse, take, upgrade}
 use Rattle.lock.specs.Model.{model_run, model_step, modelled, unpaid, unpaid_record}
 use Rattle.lock.specs.Runs.{Made, RunWhile}
 use Rattle.lock.proofs.Asked.{asked_all, is_asked, outcome, questions}

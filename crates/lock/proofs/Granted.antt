@@ -3,16 +3,14 @@ use Rattle.std.proofs.Common.{◌≡◌, ℕ, ◌+◌, ◌<◌, ◌≤◌, ◌�
 use Rattle.std.proofs.lemmas.Bool.{and_from, and_parts, cases_Bool, eq-eqb, eqb-true, false≢true, le-leb, leb-true, lt-ltb, ltb-true}
 use Rattle.memory.specs.Calls.{Doing}
 use Rattle.lines.specs.declared.place.Place.{Place}
-use Rattle.lines.specs.declared.place.Place.TheVariants.{Rest, Inside, Next}
+use Rattle.lines.specs.declared.place.Place.TheVariants.{Rest, Next}
 use Rattle.lines.specs.declared.place.Right.{Right}
 use Rattle.lines.specs.declared.place.Right.TheVariants.{Reading, Writing}
 use Rattle.lines.specs.Rights.{right_of, same_right}
-use Rattle.calls.specs.declared.refusal.Refusal.{Refusal}
 use Rattle.calls.specs.declared.refusal.Refusal.TheVariants.{Finished, NoPass, NoRow, NoTask, OtherLock, OtherRight, Shut, Stored, Thickness, Upgrades}
-use Rattle.calls.specs.Questions.{ask, advance_refusal, advance_refusal_at, begin_refusal, begin_refusal_at, is_out, out_for, pass_refusal, row_refusal, take_refusal, task_refusal, thickness_refusal, upgrade_refusal}
-use Rattle.calls.specs.Records.{begun, downgrading, leaving, upgrading, with_out}
-use Rattle.calls.specs.States.{State, record_of, with_record, with_row}
-use Rattle.calls.specs.Steps.{Answer, Call, Verdict, advance, asked, at_once, begin, done, downgrade, gives, hands, judge, lay_back, leave, line, no, put, read, refuse, row_answer, take, upgrade}
+use Rattle.calls.specs.Questions.{ask, advance_refusal_at, begin_refusal_at, is_out, out_for, pass_refusal, row_refusal, take_refusal, task_refusal, thickness_refusal}
+use Rattle.calls.specs.States.{State, record_of}
+use Rattle.calls.specs.Steps.{Answer, Call, Verdict, advance, at_once, begin, downgrade, gives, judge, lay_back, leave, line, no, put, read, refuse, row_answer, take, upgrade}
 use Rattle.calls.proofs.Obeyed.{yes}
 use Rattle.lock.specs.Charges.{unfinished}
 use Rattle.lock.specs.Needs.{RefusedAsDamaged, IsRefused, Needs, OnLine}

@@ -1,5 +1,5 @@
 -- What the calls made say of a task is what its record says: its pass, its changes, its attempts and what they cost.
-use Rattle.std.proofs.Common.{◌≡◌, ℕ, ◌+◌, ◌-◌, ◌<◌, ◌≤◌, ◌≢◌, ◌⊎◌, true, false, cond, min, eqb, ltb, List, [], ◌∷◌, length, get_or, set, Some, None, Option, sym, refl, ap, ◌∙◌, subst, inl, inr, arith}
+use Rattle.std.proofs.Common.{◌≡◌, ℕ, ◌+◌, ◌-◌, ◌<◌, ◌≤◌, ◌≢◌, ◌⊎◌, true, false, cond, min, eqb, ltb, List, [], ◌∷◌, length, get_or, set, Some, None, sym, refl, ap, ◌∙◌, subst, inl, inr, arith}
 use Rattle.std.proofs.lemmas.Bool.{cases_eq, eq-eqb, false≢true, ltb-true, ne_eqb}
 use Rattle.std.proofs.lemmas.List.{get_or-set_same, get_or-set_other, length-set}
 use Rattle.memory.specs.Calls.{Doing}
@@ -11,13 +11,12 @@ use Rattle.lines.specs.Deeds.{finds}
 use Rattle.lines.specs.Lines.{next_deed}
 use Rattle.lines.specs.Rights.{right_of}
 use Rattle.calls.specs.declared.record.Record.{Record}
-use Rattle.calls.specs.declared.refusal.Refusal.{Refusal}
 use Rattle.calls.specs.declared.refusal.Refusal.TheVariants.{Upgrades}
 use Rattle.calls.specs.Accounts.{charged}
-use Rattle.calls.specs.Questions.{advance_refusal, begin_refusal, out_for, pass_refusal, row_refusal, take_refusal, task_refusal, thickness_refusal, upgrade_refusal}
+use Rattle.calls.specs.Questions.{out_for}
 use Rattle.calls.specs.Records.{begun, downgrading, fresh, leaving, settled, upgrading, with_out}
-use Rattle.calls.specs.States.{State, record_of, with_record, with_row}
-use Rattle.calls.specs.Steps.{Answer, Call, Calls, Carried, Verdict, advance, asked, at_once, begin, done, downgrade, hands, judge, lay_back, leave, line, put, read, refuse, row_answer, take, upgrade}
+use Rattle.calls.specs.States.{State, record_of}
+use Rattle.calls.specs.Steps.{Answer, Call, Calls, Verdict, advance, at_once, begin, done, downgrade, judge, lay_back, leave, line, put, read, refuse, take, upgrade}
 use Rattle.calls.proofs.Obeyed.{call_same, yes}
 use Rattle.calls.proofs.Sound.{has_out, parts}
 use Rattle.lock.specs.Charges.{Counts, Finishes, cost_after, unfinished}

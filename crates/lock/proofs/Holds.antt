@@ -9,7 +9,7 @@ use Rattle.memory.specs.declared.operation.Operation.{Operation}
 use Rattle.memory.specs.declared.operation.Operation.TheVariants.{Read, Write, Add, Swap}
 use Rattle.memory.specs.Operations.{after}
 use Rattle.lines.specs.declared.deed.Deed.{Deed}
-use Rattle.lines.specs.declared.deed.Deed.TheVariants.{Touch, Join, First, Quit, Nothing}
+use Rattle.lines.specs.declared.deed.Deed.TheVariants.{Touch, Join, Quit}
 use Rattle.lines.specs.declared.place.Line.{Line}
 use Rattle.lines.specs.declared.place.Place.{Place}
 use Rattle.lines.specs.declared.place.Role.{Role}

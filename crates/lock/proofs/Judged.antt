@@ -1,5 +1,5 @@
 -- What the questions of a call come to on a lock whose facts hold: its own refusal, a line that is the task's next one, or an answer.
-use Rattle.std.proofs.Common.{◌≡◌, ℕ, ◌-◌, ◌≤◌, true, eqb, length, Some, None, Option, refl, arith}
+use Rattle.std.proofs.Common.{◌≡◌, ℕ, ◌-◌, ◌≤◌, true, eqb, length, Some, None, refl, arith}
 use Rattle.std.proofs.lemmas.Bool.{and_parts, leb-true}
 use Rattle.lines.specs.declared.deed.Found.{Found}
 use Rattle.lines.specs.declared.place.Line.{Line}

@@ -3,7 +3,7 @@ use Rattle.std.proofs.Common.{◌≡◌, ℕ, suc, ◌+◌, ◌≤◌, ◌≢◌
 use Rattle.std.proofs.lemmas.Bool.{cases_eq, cases_lt, eq-eqb, ne_eqb, lt-ltb, le-ltb}
 use Rattle.lines.specs.declared.deed.Deed.{Deed}
 use Rattle.lines.specs.declared.place.Line.{Line}
-use Rattle.lines.specs.declared.place.Line.TheVariants.{L0p1, L0p2, L1, L2, L3, L4, L6, L7, L8, L9, L10, L11, L12, L13, L14, L15, L16, L16p1, L17, L18, L19, L20, L21, L22, L22p1, L22p2, L23, L25p1, L25p2, L25p3, L26p1, L27p1, L27p2, L27p3, L27p4, L27p5, Down28p1, Down28p2, L28p1, L28p2, L29p2, L32p1}
+use Rattle.lines.specs.declared.place.Line.TheVariants.{L0p1, L0p2, L6, L10, L11, L12, L13, L14, L16p1, L19, L20, L21, L22, L22p1, L22p2, L27p1, L27p3, L27p5, L32p1}
 use Rattle.lines.specs.declared.place.Place.{Place}
 use Rattle.lines.specs.declared.place.Role.{Role}
 use Rattle.lines.specs.declared.place.Standing.{Standing}

@@ -1,18 +1,12 @@
 -- What each call comes to on a lock whose facts hold: a refusal of its own, a line that is due, or an answer that leaves all tasks where they are.
-use Rattle.std.proofs.Common.{◌≡◌, ℕ, ◌-◌, Bool, true, false, eqb, leb, ltb, length, get_or, Some, None, Option, refl, inl, inr, lit≤}
+use Rattle.std.proofs.Common.{◌≡◌, ℕ, ◌-◌, eqb, leb, get_or, Some, None, Option, refl, inl, inr, lit≤}
 use Rattle.std.proofs.lemmas.Bool.{cases_Bool}
-use Rattle.lines.specs.declared.place.Place.{Place}
-use Rattle.lines.specs.declared.place.Place.TheVariants.{Rest, Inside, Next}
 use Rattle.lines.specs.declared.place.Right.{Right}
 use Rattle.lines.specs.declared.place.Right.TheVariants.{Reading, Writing}
-use Rattle.lines.specs.Rights.{right_of, same_right}
-use Rattle.calls.specs.declared.refusal.Refusal.{Refusal}
-use Rattle.calls.specs.declared.refusal.Refusal.TheVariants.{Finished, NoPass, NoRow, NoTask, OtherLock, OtherRight, Shut, Thickness, Upgrades}
 use Rattle.calls.specs.declared.record.Record.{Record}
-use Rattle.calls.specs.Questions.{advance_refusal, advance_refusal_at, ask, begin_refusal, begin_refusal_at, is_out, pass_refusal, row_refusal, take_refusal, task_refusal, thickness_refusal, upgrade_refusal}
-use Rattle.calls.specs.Records.{begun, downgrading, leaving, upgrading, with_out}
+use Rattle.calls.specs.Records.{with_out}
 use Rattle.calls.specs.States.{State, record_of, with_record, with_row}
-use Rattle.calls.specs.Steps.{Answer, Call, Verdict, advance, asked, at_once, begin, done, downgrade, hands, judge, lay_back, leave, line, put, read, refuse, row_answer, take, upgrade}
+use Rattle.calls.specs.Steps.{Answer, Call, Verdict, advance, at_once, begin, done, downgrade, hands, judge, lay_back, leave, line, put, read, refuse, row_answer, take, upgrade}
 use Rattle.calls.proofs.Sound.{back_in_order, out_in_order}
 use Rattle.lock.specs.Promises.{IsOfLock, IsOwn}
 use Rattle.lock.proofs.Holds.{at}

@@ -1,29 +1,17 @@
 -- An obeyed call does the one line that its task's place and standing say, and any other call does none.
-use Rattle.std.proofs.Common.{◌≡◌, ℕ, ◌-◌, ◌<◌, ◌≤◌, cond, length, get_or, Some, None, Option, sym, refl, ap, ◌∙◌, subst, arith}
+use Rattle.std.proofs.Common.{◌≡◌, ℕ, ◌-◌, ◌<◌, ◌≤◌, length, Some, sym, ap, ◌∙◌, arith}
 use Rattle.std.proofs.lemmas.List.{get_or-set_same, get_or-set_other}
-use Rattle.memory.specs.Calls.{Doing}
 use Rattle.lines.specs.declared.place.Line.{Line}
-use Rattle.lines.specs.declared.place.Place.{Place}
-use Rattle.lines.specs.declared.place.Place.TheVariants.{Next}
-use Rattle.lines.specs.declared.place.Right.TheVariants.{Reading, Writing}
 use Rattle.lines.specs.declared.place.Role.TheVariants.{Reader}
 use Rattle.lines.specs.Deeds.{cells_after, finds, waiting_after}
 use Rattle.lines.specs.Lines.{deed_of, next_deed, settle}
-use Rattle.lines.specs.Rights.{right_of}
-use Rattle.lines.specs.Starts.{begin_line, downgrade_line, leave_line, upgrade_line}
 use Rattle.calls.specs.declared.record.Record.{Record}
-use Rattle.calls.specs.declared.refusal.Refusal.{Refusal}
-use Rattle.calls.specs.Questions.{advance_refusal, begin_refusal, pass_refusal, row_refusal, take_refusal, task_refusal, thickness_refusal, upgrade_refusal}
-use Rattle.calls.specs.Records.{begun, downgrading, fresh, leaving, settled, upgrading, with_out}
-use Rattle.calls.specs.States.{State, record_of, with_record, with_row}
-use Rattle.calls.specs.Steps.{Answer, Call, Calls, Verdict, advance, after_deed, asked, at_once, begin, done, downgrade, hands, judge, lay_back, leave, line, put, read, refuse, row_answer, take, upgrade}
+use Rattle.calls.specs.Records.{fresh, settled}
+use Rattle.calls.specs.States.{State, record_of}
+use Rattle.calls.specs.Steps.{Answer, Call, after_deed, done}
 use Rattle.lock.specs.OneLine.{Did, line_done, line_of, next_line}
-use Rattle.lock.specs.Runs.{task_of, was_obeyed}
-use Rattle.lock.proofs.Asked.{judged, outcome}
-use Rattle.lock.proofs.Judged.{Due, Lawful, Leads, advance_leads, begin_leads, downgrade_leads, leave_leads, pass_there, upgrade_leads}
-use Rattle.lock.proofs.Meant.{Meant, meant}
-use Rattle.lock.proofs.Recorded.{cond_same}
-use Rattle.lock.proofs.Runs.{Able, Obeyed, call_kept}
+use Rattle.lock.specs.Runs.{task_of}
+use Rattle.lock.proofs.Judged.{Due, Leads}
 
 -- what a line leaves, by the line that it is of the task's track
 pub line_did : (s : State) (u : ℕ) (r : Record) (share : ℕ) (l : Line) → 1 ≤ u → u ≤ length s.records → Leads (u - 1) (record_of s u).track r.track l → Did u (Some l) s (after_deed u r (next_deed u r.track) share s)

@@ -5,11 +5,11 @@ use Rattle.memory.specs.Calls.{Doing}
 use Rattle.lines.specs.declared.place.Role.{Role}
 use Rattle.lines.specs.declared.place.Role.TheVariants.{Reader, Writer}
 use Rattle.lines.specs.declared.place.Place.{Place}
-use Rattle.lines.specs.declared.place.Place.TheVariants.{Rest, Inside, Next}
+use Rattle.lines.specs.declared.place.Place.TheVariants.{Inside}
 use Rattle.lines.specs.declared.place.Right.{Right}
 use Rattle.lines.specs.declared.place.Right.TheVariants.{Writing}
 use Rattle.lines.specs.declared.place.Standing.{Standing}
-use Rattle.lines.specs.declared.place.Standing.TheVariants.{Normal, Upgraded, Downgraded}
+use Rattle.lines.specs.declared.place.Standing.TheVariants.{Normal, Upgraded}
 use Rattle.lines.specs.declared.track.Track.{Track}
 use Rattle.lines.specs.Rights.{right_at, right_inside}
 use Rattle.lines.specs.Classes.{has_upgraded, is_counted}

@@ -1,5 +1,5 @@
 -- What runs leave in the rows: a row holds the number last put into it, and stands still while a task keeps its reading right.
-use Rattle.std.proofs.Common.{◌≡◌, ℕ, ◌<◌, ◌≤◌, Bool, true, false, eqb, ltb, ◌≢◌, List, [], ◌∷◌, length, get_or, set, Some, None, Option, sym, refl, ap, ◌∙◌, subst, inl, inr, arith}
+use Rattle.std.proofs.Common.{◌≡◌, ℕ, ◌<◌, ◌≤◌, ltb, List, [], ◌∷◌, length, get_or, set, Some, None, Option, sym, refl, ap, ◌∙◌, subst, inl, inr, arith}
 use Rattle.std.proofs.lemmas.Bool.{cases_eq, eq-eqb, false≢true, ltb-true, ne_eqb}
 use Rattle.std.proofs.lemmas.List.{get_or-set_same, get_or-set_other}
 use Rattle.memory.specs.Calls.{Doing}
@@ -7,15 +7,12 @@ use Rattle.lines.specs.declared.deed.Deed.{Deed}
 use Rattle.lines.specs.declared.place.Right.{Right}
 use Rattle.lines.specs.declared.place.Right.TheVariants.{Reading, Writing}
 use Rattle.lines.specs.Lines.{next_deed}
-use Rattle.lines.specs.Rights.{right_of}
 use Rattle.calls.specs.declared.record.Record.{Record}
 use Rattle.calls.specs.declared.refusal.Refusal.{Refusal}
-use Rattle.calls.specs.declared.refusal.Refusal.TheVariants.{NoPass, NoRow, OtherLock, Shut}
-use Rattle.calls.specs.Questions.{advance_refusal, ask, begin_refusal, is_out, pass_refusal, row_refusal, take_refusal, task_refusal, thickness_refusal, upgrade_refusal}
+use Rattle.calls.specs.declared.refusal.Refusal.TheVariants.{NoRow}
 use Rattle.calls.specs.Refusals.{refusal_number}
-use Rattle.calls.specs.Records.{begun, downgrading, leaving, upgrading, with_out}
-use Rattle.calls.specs.States.{State, record_of, with_record, with_row}
-use Rattle.calls.specs.Steps.{Answer, Call, Calls, Carried, Verdict, advance, asked, at_once, begin, deed_refusal, done, downgrade, hands, judge, lay_back, leave, line, lined, no, put, read, refuse, row_answer, take, upgrade}
+use Rattle.calls.specs.States.{State}
+use Rattle.calls.specs.Steps.{Answer, Call, Calls, Carried, Verdict, at_once, deed_refusal, judge, lay_back, line, lined, no, put, read, refuse, row_answer, take}
 use Rattle.calls.proofs.Obeyed.{yes}
 use Rattle.lock.specs.Promises.{HasRight}
 use Rattle.lock.specs.Rows.{IsOfRow, last_put, left_in}
