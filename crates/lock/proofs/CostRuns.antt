@@ -33,7 +33,7 @@ use Rattle.lock.proofs.Copies.{ChargedByUnits, deed_charged, flag, length-masks_
 use Rattle.lock.proofs.Costs.{Paid, Units, account_before, at_most_20, charge, other_copies, others_kept, own_copies, payer_kept, purse}
 use Rattle.lock.proofs.Costs.{charged as charged_units}
 use Rattle.lock.proofs.Facts.{Before, Cells, Task, seen, seen_cells}
-use Rattle.lock.proofs.Holds.{Holds, at, line_moves, met, seen_at}
+use Rattle.lock.proofs.Holds.{Holds, at, each_other, line_moves, met, seen_at}
 use Rattle.lock.proofs.Judged.{Due, Lawful, account_of_call}
 use Rattle.lock.proofs.Meant.{Meant, Quiet, meant}
 use Rattle.lock.proofs.Opened.{seven_of}
@@ -99,28 +99,20 @@ module _ (l : Line) (C D G X P U V : ℕ) (ws : List ℕ) (rs : List Record) (i 
   PaidBy a b j = Paid (seen_cells (cells_after deed cs) (waiting_after deed (suc i) ws)) a (purse b (flag (masks_after deed (suc i) masks) (suc j)))
 
   line_paid : Before l (seen i k) → Holds cs ws rs → Paying cs ws rs masks units → (r : Record) → r.track ≡ found → Paying (cells_after deed cs) (waiting_after deed (suc i) ws) (set rs i r) (masks_after deed (suc i) masks) after
-  line_paid b g p r is j =
+  line_paid b g p r is =
       let known = touches_known l (suc i) k in
       let low : 1 ≤ suc i = omega arith in
       let own = charged_units (account_before l (units i)) (charge deed (flag masks (suc i))) in
-      elim (cases_eq j i) [
-        | inl e ↦
-            let paid : Paid (seen_cells (cells_after deed cs) (waiting_after deed (suc i) ws)) (seen i found) (purse own (own_copies deed (flag masks (suc i)))) =
-            payer_kept C D G X P U V i k.prev k.curr k.d k.x k.place k.standing (units i) (flag masks (suc i)) l k.role ws b (g.one i) (p i) in
-            let with_copies : PaidBy (seen i found) own i = subst (λ m. Paid (seen_cells (cells_after deed cs) (waiting_after deed (suc i) ws)) (seen i found) m) (sym (purse_own deed (suc i) masks own seven known low)) paid in
-            let with_share : PaidBy (seen i found) (charged_units (account_before l (units i)) (unit_share deed (suc i) masks)) i = subst (λ n. PaidBy (seen i found) (charged_units (account_before l (units i)) n) i) (sym (unit_share-charge deed (suc i) masks)) with_copies in
-            let with_units : PaidBy (seen i found) (after i) i = subst (λ c. PaidBy (seen i found) (cond c (charged_units (account_before l (units i)) (unit_share deed (suc i) masks)) (units i)) i) (sym (eq-eqb i i refl)) with_share in
-            let with_record : PaidBy (seen_at (set rs i r) i) (after i) i = subst (λ x. PaidBy (seen i x) (after i) i) (sym (ap (λ (x : Record). x.track) (get_or-set_same rs i r (fresh Reader) h) ∙ is)) with_units in
-            subst (λ n. PaidBy (seen_at (set rs i r) n) (after n) n) (sym e) with_record
-        | inr n ↦
-            let apart : suc j ≢ suc i = omega arith in
-            let m = met l C D G X P U V ws rs i h g (line_moves l C D G X P U V ws rs i h b g) r is j n in
-            let paid : Paid (seen_cells (cells_after deed cs) (waiting_after deed (suc i) ws)) (seen_at rs j) (purse (units j) (other_copies deed (flag masks (suc j)))) =
-            others_kept C D G X P U V i k.prev k.curr k.d k.x k.place k.standing (units i) (flag masks (suc i)) l k.role ws b (g.one i) (seen_at rs j) (units j) (flag masks (suc j)) m (p j) in
-            let with_copies : PaidBy (seen_at rs j) (units j) j = subst (λ m. Paid (seen_cells (cells_after deed cs) (waiting_after deed (suc i) ws)) (seen_at rs j) m) (sym (purse_other deed (suc i) (suc j) masks (units j) seven known low (omega arith) apart)) paid in
-            let with_units : PaidBy (seen_at rs j) (after j) j = subst (λ c. PaidBy (seen_at rs j) (cond c (charged_units (account_before l (units i)) (unit_share deed (suc i) masks)) (units j)) j) (sym (ne_eqb j i n)) with_copies in
-            subst (λ x. PaidBy (seen j x) (after j) j) (sym (ap (λ (x : Record). x.track) (get_or-set_other rs i j r (fresh Reader) n))) with_units
-      ]
+      let paid : Paid (seen_cells (cells_after deed cs) (waiting_after deed (suc i) ws)) (seen i found) (purse own (own_copies deed (flag masks (suc i)))) =
+      payer_kept C D G X P U V i k.prev k.curr k.d k.x k.place k.standing (units i) (flag masks (suc i)) l k.role ws b (g.one i) (p i) in
+      let with_copies : PaidBy (seen i found) own i = subst (λ m. Paid (seen_cells (cells_after deed cs) (waiting_after deed (suc i) ws)) (seen i found) m) (sym (purse_own deed (suc i) masks own seven known low)) paid in
+      each_other (λ j x. PaidBy (seen j x.track) (after j) j) rs i r h (rw (is, eq-eqb i i refl, unit_share-charge deed (suc i) masks) with_copies) (λ j n.
+      let apart : suc j ≢ suc i = omega arith in
+      let m = met l C D G X P U V ws rs i h g (line_moves l C D G X P U V ws rs i h b g) r is j n in
+      let paid : Paid (seen_cells (cells_after deed cs) (waiting_after deed (suc i) ws)) (seen_at rs j) (purse (units j) (other_copies deed (flag masks (suc j)))) =
+      others_kept C D G X P U V i k.prev k.curr k.d k.x k.place k.standing (units i) (flag masks (suc i)) l k.role ws b (g.one i) (seen_at rs j) (units j) (flag masks (suc j)) m (p j) in
+      let with_copies : PaidBy (seen_at rs j) (units j) j = subst (λ m. Paid (seen_cells (cells_after deed cs) (waiting_after deed (suc i) ws)) (seen_at rs j) m) (sym (purse_other deed (suc i) (suc j) masks (units j) seven known low (omega arith) apart)) paid in
+      rw (ne_eqb j i n) with_copies)
 
 pub record Costed (top : ℕ) (s : State) (masks : List ℕ) : Type 0 where
   pub seven : length masks ≡ 7
@@ -157,15 +149,11 @@ line_costed top s t r share masks masks' g d less left c =
   where
     line_backed : (top : ℕ) (rs : List Record) (i : ℕ) (r : Record) (share n : ℕ) (y : Record) (l : Line) (units : ℕ → Units) → i < length rs → r.account ≡ account_of_call l (at rs i).account → share ≤ top * n → y.account ≡ arrived y.track.place (charged r.account share) →
         ((j : ℕ) → Backed top (at rs j).account (units j)) → (j : ℕ) → Backed top (at (set rs i y) j).account (with_units units i (charged_units (account_before l (units i)) n) j)
-    line_backed top rs i r share n y l units h account less is backed j =
+    line_backed top rs i r share n y l units h account less is backed =
         let new = charged_units (account_before l (units i)) n in
-        elim (cases_eq j i) [
-          | inl e ↦
-              let before : Backed top r.account (account_before l (units i)) = subst (λ a. Backed top a (account_before l (units i))) (sym account) (backed_call top l (at rs i).account (units i) (backed i)) in
-              let after : Backed top y.account new = subst (λ a. Backed top a new) (sym is) (backed_arrived y.track.place top (charged r.account share) new (backed_charge top share n r.account (account_before l (units i)) less before)) in
-              rw (e, get_or-set_same rs i y (fresh Reader) h, eq-eqb i i refl) after
-          | inr other ↦ rw (get_or-set_other rs i j y (fresh Reader) other, ne_eqb j i other) (backed j)
-        ]
+        let before : Backed top r.account (account_before l (units i)) = subst (λ a. Backed top a (account_before l (units i))) (sym account) (backed_call top l (at rs i).account (units i) (backed i)) in
+        let after : Backed top y.account new = subst (λ a. Backed top a new) (sym is) (backed_arrived y.track.place top (charged r.account share) new (backed_charge top share n r.account (account_before l (units i)) less before)) in
+        each_other (λ j x. Backed top x.account (with_units units i new j)) rs i y h (rw (eq-eqb i i refl) after) (λ j other. rw (ne_eqb j i other) (backed j))
 
 -- a task that never began has paid nothing
 first_paid : (c : Cells) (j : ℕ) (o : Role) (copies : ℕ → ℕ) → Paid c (seen j (at_rest o)) (purse (record { cost = 0; u = 0; g = 0 }) copies)

@@ -25,6 +25,7 @@ use Rattle.lock.specs.Needs.{AnswersSo, RefusedAsDamaged, Needs}
 use Rattle.lock.specs.OneLine.{Did, line_done, line_of, next_line}
 use Rattle.lock.specs.Promises.{HasRight}
 use Rattle.lock.specs.Runs.{Made, RunWhile, task_of, was_obeyed}
+use Rattle.lock.proofs.Holds.{at, each_set}
 use Rattle.lock.proofs.Asked.{Passed, judged, outcome}
 use Rattle.lock.proofs.Judged.{Holding, Lawful, pass_there, task_there}
 use Rattle.lock.proofs.Meant.{Meant, meant}
@@ -79,17 +80,8 @@ replaced : (c : Call) (s : State) (t u : ℕ) (q : Record) → 1 ≤ t → 1 ≤
     told (get_or (set s.records (u - 1) q) (t - 1) (fresh Reader)) ≡ cond (eqb (task_of c) t) (obeyed_in (told (record_of s t)) c) (told (record_of s t))
 replaced c s t u q low low' high is e = replaced_by told (λ h. obeyed_in h c) s.records t u q low low' high e ∙ ap (λ x. cond (eqb x t) (obeyed_in (told (record_of s t)) c) (told (record_of s t))) is
 
-line_finishes : (s : State) (t u : ℕ) (q : Record) → 1 ≤ t → 1 ≤ u → u ≤ length s.records → Finishes (record_of s u) q → Finishes (record_of s t) (get_or (set s.records (u - 1) q) (t - 1) (fresh Reader))
-line_finishes s t u q low low' high k =
-    let h : u - 1 < length s.records = omega arith in
-    elim (cases_eq u t) [
-      | inl same ↦
-          let P : ℕ → Type 0 = λ x. Finishes (record_of s x) (get_or (set s.records (u - 1) q) (x - 1) (fresh Reader)) in
-          subst P same (subst (Finishes (record_of s u)) (sym (get_or-set_same s.records (u - 1) q (fresh Reader) h)) k)
-      | inr other ↦
-          let e : get_or (set s.records (u - 1) q) (t - 1) (fresh Reader) ≡ record_of s t = get_or-set_other s.records (u - 1) (t - 1) q (fresh Reader) (omega arith) in
-          quiet_finishes (record_of s t) (get_or (set s.records (u - 1) q) (t - 1) (fresh Reader)) (ap (λ (x : Record). x.track) e) (ap (λ (x : Record). x.account) e)
-    ]
+line_finishes : (s : State) (t u : ℕ) (q : Record) → Finishes (record_of s u) q → Finishes (record_of s t) (get_or (set s.records (u - 1) q) (t - 1) (fresh Reader))
+line_finishes s t u q k = each_set (λ j x. Finishes (at s.records j) x) s.records (u - 1) q k (λ j. quiet_finishes (at s.records j) (at s.records j) refl refl) (t - 1)
 
 -- the line of a task in an attempt, whose account before it has the finished attempts and the total of r
 ends_away : (r q : Record) → Away r.track.place → q.account.finished ≡ r.account.finished → q.account.total ≡ r.account.total → (f : Found) (share : ℕ) → Finishes r (settled q f share)
@@ -176,7 +168,7 @@ left does c (line u r) s z m n a (x, (share, y, shares)) h k =
       rows = ap (λ (w : State). length w.table) y;
       did = subst (λ o. Did (task_of c) o s z) (sym (line_is c s u r a h x k.is k.line)) (subst (λ t. Did t (Some h.next) s z) k.is (subst (λ w. Did u (Some h.next) s w) (sym y) (line_did s u r share h.next h.low h.high h.leads)));
       says = λ t low. ap (λ w. told (record_of w t)) y ∙ replaced c s t u q low h.low h.high k.is says ∙ ap (λ b. made_in t (told (record_of s t)) (record { call = c; answer = b })) (sym x);
-      ends = λ t low. subst (λ w. Finishes (record_of s t) (record_of w t)) (sym y) (line_finishes s t u q low h.low h.high (k.ends f share));
+      ends = λ t low. subst (λ w. Finishes (record_of s t) (record_of w t)) (sym y) (line_finishes s t u q (k.ends f share));
       needs = λ o. k.needs;
       answers = λ o. subst (AnswersSo s.number c) (sym x) k.answers;
       refused = λ o. absurd (false≢true (sym o ∙ ap was_obeyed x));

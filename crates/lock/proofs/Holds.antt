@@ -1,5 +1,5 @@
 -- The facts hold of a whole lock: of its cells, its queue and all its tasks; and a line of one task keeps them.
-use Rattle.std.proofs.Common.{◌≡◌, ℕ, suc, pred, ◌+◌, ◌<◌, ◌≤◌, cond, ◌≢◌, List, [], ◌∷◌, ◌++◌, length, get_or, set, sum_by, refl, sym, ap, ◌∙◌, subst, inl, inr, arith}
+use Rattle.std.proofs.Common.{◌≡◌, ℕ, zero, suc, pred, ◌+◌, ◌<◌, ◌≤◌, cond, ◌≢◌, List, [], ◌∷◌, ◌++◌, length, get_or, set, sum_by, refl, sym, ap, ◌∙◌, subst, inl, inr, arith}
 use Rattle.std.specs.List.{AllByRecursion as All}
 use Rattle.std.proofs.lemmas.List.{get_or-set_same, get_or-set_other, get_or_past, length-set}
 use Rattle.std.proofs.lemmas.List.Sums.{sum_by-set, get_or-le-sum_by, sum_by-cons, count_by-le-length}
@@ -32,6 +32,18 @@ at rs i = get_or rs i (fresh Reader)
 
 abbrev pub seen_at : List Record → ℕ → Task
 seen_at rs i = seen i (at rs i).track
+
+-- what holds of the record that is put in at place i, and of each one before it, holds of each one then
+pub each_set : (P : ℕ → Record → Type 0) (rs : List Record) (i : ℕ) (r : Record) → P i r → ((j : ℕ) → P j (at rs j)) → (j : ℕ) → P j (at (set rs i r) j)
+each_set P [] i r own all j = all j
+each_set P (x ∷ rs) zero r own all zero = own
+each_set P (x ∷ rs) zero r own all (suc j) = all (suc j)
+each_set P (x ∷ rs) (suc i) r own all zero = all 0
+each_set P (x ∷ rs) (suc i) r own all (suc j) = each_set (λ n. P (suc n)) rs i r own (λ n. all (suc n)) j
+
+-- the same where it is not known of the one that was there
+pub each_other : (P : ℕ → Record → Type 0) (rs : List Record) (i : ℕ) (r : Record) → i < length rs → P i r → ((j : ℕ) → j ≢ i → P j (at rs j)) → (j : ℕ) → P j (at (set rs i r) j)
+each_other P rs i r h own others j = elim (cases_eq j i) [ inl e ↦ rw (e, get_or-set_same rs i r (fresh Reader) h) own | inr n ↦ rw (get_or-set_other rs i j r (fresh Reader) n) (others j n) ]
 
 -- Counts.
 
@@ -192,33 +204,16 @@ module _ (l : Line) (C D G X P U V : ℕ) (ws : List ℕ) (rs : List Record) (i 
     met j n = record { apart = omega arith; sum = omega (arith, g.count, ticks_counted rs i j h n); next = next_waits deed rs i ws g.waits j n; one = g.one j; pair = g.pair i j (λ e. n (sym e)); pair_back = g.pair j i n }
 
     one_kept : (j : ℕ) → OneTask (seen_cells cs' ws') (seen_at rs' j)
-    one_kept j =
-        elim (cases_eq j i) [
-          | inl e ↦ rw (e, get_or-set_same rs i r' (fresh Reader) h, new_is) k.self
-          | inr n ↦ rw (get_or-set_other rs i j r' (fresh Reader) n) (k.other _ (met j n))
-        ]
+    one_kept = each_other (λ j x. OneTask (seen_cells cs' ws') (seen j x.track)) rs i r' h (rw new_is k.self) (λ j n. k.other _ (met j n))
 
     pair_kept : (j m : ℕ) → j ≢ m → TwoTasks (seen_cells cs' ws') (seen_at rs' j) (seen_at rs' m)
-    pair_kept j m n =
-        elim (cases_eq j i) [
-          | inl e ↦
-              elim (cases_eq m i) [
-                | inl f ↦ absurd (n (e ∙ sym f))
-                | inr o ↦ rw (e, get_or-set_same rs i r' (fresh Reader) h, get_or-set_other rs i m r' (fresh Reader) o, new_is) (k.pair _ (met m o))
-              ]
-          | inr p ↦
-              elim (cases_eq m i) [
-                | inl f ↦ rw (f, get_or-set_same rs i r' (fresh Reader) h, get_or-set_other rs i j r' (fresh Reader) p, new_is) (k.pair_back _ (met j p))
-                | inr o ↦ rw (get_or-set_other rs i j r' (fresh Reader) p, get_or-set_other rs i m r' (fresh Reader) o) (k.others _ _ (met j p) (met m o) (g.pair j m n))
-              ]
-        ]
+    pair_kept =
+        let P : Task → ℕ → ℕ → Record → Type 0 = λ a j m y. j ≢ m → TwoTasks (seen_cells cs' ws') a (seen m y.track) in
+        each_other (λ j x. (m : ℕ) → P (seen j x.track) j m (at rs' m)) rs i r' h (each_other (P (seen i r'.track) i) rs i r' h (λ n. absurd (n refl)) (λ m o n. rw new_is (k.pair _ (met m o)))) (λ j p.
+        each_other (P (seen_at rs j) j) rs i r' h (λ n. rw new_is (k.pair_back _ (met j p))) (λ m o n. k.others _ _ (met j p) (met m o) (g.pair j m n)))
 
     register_kept : (j : ℕ) → (at rs' j).track.x ≤ length rs'
-    register_kept j =
-        elim (cases_eq j i) [
-          | inl e ↦ rw (e, get_or-set_same rs i r' (fresh Reader) h, length-set rs i r', is) (k.x_register (length rs) g.x_cell (g.x_register i))
-          | inr n ↦ rw (get_or-set_other rs i j r' (fresh Reader) n, length-set rs i r') (g.x_register j)
-        ]
+    register_kept = each_other (λ j x. x.track.x ≤ length rs') rs i r' h (rw (length-set rs i r', is) (k.x_register (length rs) g.x_cell (g.x_register i))) (λ j n. rw (length-set rs i r') (g.x_register j))
 
     fits_new : Fits deed (seen_cells cs ws) (seen i r) (seen i r'.track)
     fits_new = subst (λ a. Fits deed (seen_cells cs ws) (seen i r) a) (sym new_is) k.fits
