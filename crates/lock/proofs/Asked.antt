@@ -44,14 +44,7 @@ asked_all (o ∷ os) v = asked o (asked_all os v)
 
 pub is_asked : (c : Call) (s : State) → judge c s ≡ asked_all (questions c s) (outcome c s)
 is_asked (begin t) s = refl
-is_asked (advance t) s = refl
-is_asked (take w t) s = refl
-is_asked (lay_back w k t) s = refl
-is_asked (upgrade k t) s = refl
-is_asked (downgrade k t) s = refl
-is_asked (leave w k t) s = refl
-is_asked (read w k t row) s = refl
-is_asked (put k t row n) s = refl
+is_asked c s = refl
 
 -- Every refusal is of the lock itself, and none has the number 32, which is of a row.
 

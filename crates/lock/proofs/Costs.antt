@@ -15,6 +15,7 @@ use Rattle.lines.specs.declared.place.Standing.{Standing}
 use Rattle.lines.specs.declared.track.Track.{Track}
 use Rattle.lines.specs.Deeds.{cells_after, finds, waiting_after}
 use Rattle.lines.specs.Lines.{deed_of, settle}
+use Rattle.lock.proofs.Kept.{pass_at}
 use Rattle.lock.proofs.Facts.{Before, Cells, Met, OneTask, Task, seen, seen_cells, writer}
 
 -- the cost of the current or latest attempt in units, with its upgrades and downgrades
@@ -48,20 +49,9 @@ abbrev pub at_most : (role rank : ℕ) → ℕ
 at_most role rank = get_or (get_or (reader_costs ∷ writer_costs ∷ []) role []) rank 0
 
 -- no place allows more than 20
-are_small : List ℕ → Bool
-are_small [] = true
-are_small (n ∷ ns) = leb n 20 && are_small ns
-
-get_or-are_small : (ns : List ℕ) (k : ℕ) → are_small ns ≡ true → get_or ns k 0 ≤ 20
-unfolding are_small
-get_or-are_small [] k e = omega arith
-get_or-are_small (n ∷ ns) zero e = leb-true n 20 (and_parts _ _ e).0
-get_or-are_small (n ∷ ns) (suc k) e = get_or-are_small ns k (and_parts (leb n 20) (are_small ns) e).1
-
 pub at_most_20 : (o : Role) (rank : ℕ) → at_most (writer o) rank ≤ 20
-unfolding are_small
-at_most_20 Reader rank = get_or-are_small reader_costs rank refl
-at_most_20 Writer rank = get_or-are_small writer_costs rank refl
+at_most_20 Reader rank = leb-true _ 20 (pass_at (λ n. leb n 20) reader_costs rank 0 refl refl)
+at_most_20 Writer rank = leb-true _ 20 (pass_at (λ n. leb n 20) writer_costs rank 0 refl refl)
 
 -- What a task has paid at most. On a wait line, while the wait holds, a task without a copy is below the bound of its place:
 -- its next read is paid and leaves a copy, with which it waits for nothing.

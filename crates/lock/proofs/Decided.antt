@@ -1,5 +1,7 @@
 -- But for costs, a run makes of the state what the calls alone make of it.
 use Rattle.std.proofs.Common.{◌≡◌, ℕ, zero, suc, ◌-◌, List, [], ◌∷◌, length, get_or, set, map, Some, None, Option, sym, refl, ap, ap₂, ◌∙◌}
+use Rattle.std.proofs.Math.ListN.{get_or-map, length-map}
+use Rattle.std.proofs.Math.Seq.{map-set}
 use Rattle.memory.specs.Calls.{Doing}
 use Rattle.lines.specs.declared.deed.Deed.{Deed}
 use Rattle.lines.specs.declared.deed.Found.{Found}
@@ -34,35 +36,21 @@ asked_unpaid [] v = refl
 asked_unpaid (None ∷ os) v = asked_unpaid os v
 asked_unpaid (Some e ∷ os) v = refl
 
-record_unpaid : (rs : List Record) (i : ℕ) → get_or (map unpaid_record rs) i (fresh Reader) ≡ unpaid_record (get_or rs i (fresh Reader))
-record_unpaid [] i = refl
-record_unpaid (r ∷ rs) zero = refl
-record_unpaid (r ∷ rs) (suc i) = record_unpaid rs i
-
-set_unpaid : (rs : List Record) (i : ℕ) (r : Record) → map unpaid_record (set rs i r) ≡ set (map unpaid_record rs) i (unpaid_record r)
-set_unpaid [] i r = refl
-set_unpaid (x ∷ rs) zero r = refl
-set_unpaid (x ∷ rs) (suc i) r = ap (λ ys. unpaid_record x ∷ ys) (set_unpaid rs i r)
-
-count_unpaid : (rs : List Record) → length (map unpaid_record rs) ≡ length rs
-count_unpaid [] = refl
-count_unpaid (r ∷ rs) = ap suc (count_unpaid rs)
-
 module _ (s : State) (t : ℕ) where
   abbrev r : Record
   r = record_of s t
 
   own : record_of (unpaid s) t ≡ unpaid_record r
-  own = record_unpaid s.records (t - 1)
+  own = get_or-map unpaid_record s.records (t - 1) (fresh Reader)
 
   task_unpaid : task_refusal (unpaid s) t ≡ task_refusal s t
-  task_unpaid = rw (count_unpaid s.records) refl
+  task_unpaid = rw (length-map s.records unpaid_record) refl
 
   pass_unpaid : (w : Right) (k : ℕ) → pass_refusal (unpaid s) w k t ≡ pass_refusal s w k t
-  pass_unpaid w k = rw (count_unpaid s.records, own) refl
+  pass_unpaid w k = rw (length-map s.records unpaid_record, own) refl
 
   with_unpaid : (q : Record) → unpaid (with_record s t q) ≡ with_record (unpaid s) t (unpaid_record q)
-  with_unpaid q = ap (λ rs. record { number = s.number; opened = s.opened; cells = s.cells; waiting = s.waiting; records = rs; table = s.table }) (set_unpaid s.records (t - 1) q)
+  with_unpaid q = ap (λ rs. record { number = s.number; opened = s.opened; cells = s.cells; waiting = s.waiting; records = rs; table = s.table }) (map-set unpaid_record s.records (t - 1) q)
 
   -- the record without costs that a line leaves
   arrived_unpaid : (p : Place) (a : Account) (share : ℕ) →
@@ -77,7 +65,7 @@ module _ (s : State) (t : ℕ) where
   deed_unpaid q d share =
       let z = after_deed t q d share s in
       ap (λ rs. record { number = z.number; opened = z.opened; cells = z.cells; waiting = z.waiting; records = rs; table = z.table })
-      (set_unpaid s.records (t - 1) (settled q (finds d t s.cells s.waiting) share) ∙ ap (set (map unpaid_record s.records) (t - 1)) (sym (settled_unpaid q (finds d t s.cells s.waiting) share)))
+      (map-set unpaid_record s.records (t - 1) (settled q (finds d t s.cells s.waiting) share) ∙ ap (set (map unpaid_record s.records) (t - 1)) (sym (settled_unpaid q (finds d t s.cells s.waiting) share)))
 
 questions_unpaid : (c : Call) (s : State) → questions c (unpaid s) ≡ questions c s
 questions_unpaid (begin t) s = rw (task_unpaid s t, own s t) refl

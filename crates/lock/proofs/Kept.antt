@@ -15,7 +15,7 @@ pass_set p [] i r h k = h
 pass_set p (x ∷ rs) zero r h k = and_from (p r) (list_all p rs) k (and_parts (p x) (list_all p rs) h).1
 pass_set p (x ∷ rs) (suc i) r h k = let parts = and_parts (p x) (list_all p rs) h in and_from (p x) (list_all p (set rs i r)) parts.0 (pass_set p rs i r parts.1 k)
 
-pub pass_at : (p : Record → Bool) (rs : List Record) (i : ℕ) (d : Record) → list_all p rs ≡ true → i < length rs → p (get_or rs i d) ≡ true
-pass_at p [] i d h few = absurd (omega (arith, few))
-pass_at p (x ∷ rs) zero d h few = (and_parts (p x) (list_all p rs) h).0
-pass_at p (x ∷ rs) (suc i) d h few = pass_at p rs i d (and_parts (p x) (list_all p rs) h).1 (omega (arith, few))
+pub pass_at : {A : Type 0} (p : A → Bool) (xs : List A) (i : ℕ) (d : A) → p d ≡ true → list_all p xs ≡ true → p (get_or xs i d) ≡ true
+pass_at p [] i d none h = none
+pass_at p (x ∷ xs) zero d none h = (and_parts (p x) (list_all p xs) h).0
+pass_at p (x ∷ xs) (suc i) d none h = pass_at p xs i d none (and_parts (p x) (list_all p xs) h).1

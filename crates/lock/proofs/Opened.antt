@@ -57,15 +57,8 @@ afters (op ∷ ops) xs = afters ops (after op xs)
 
 -- seven numbers are those in the seven places
 pub seven_of : (xs : List ℕ) → length xs ≡ 7 → xs ≡ get_or xs 0 0 ∷ get_or xs 1 0 ∷ get_or xs 2 0 ∷ get_or xs 3 0 ∷ get_or xs 4 0 ∷ get_or xs 5 0 ∷ get_or xs 6 0 ∷ []
-seven_of [] e = absurd (omega arith)
-seven_of (a ∷ []) e = absurd (omega arith)
-seven_of (a ∷ b ∷ []) e = absurd (omega arith)
-seven_of (a ∷ b ∷ c ∷ []) e = absurd (omega arith)
-seven_of (a ∷ b ∷ c ∷ d ∷ []) e = absurd (omega arith)
-seven_of (a ∷ b ∷ c ∷ d ∷ f ∷ []) e = absurd (omega arith)
-seven_of (a ∷ b ∷ c ∷ d ∷ f ∷ g ∷ []) e = absurd (omega arith)
 seven_of (a ∷ b ∷ c ∷ d ∷ f ∷ g ∷ h ∷ []) e = refl
-seven_of (a ∷ b ∷ c ∷ d ∷ f ∷ g ∷ h ∷ k ∷ xs) e = absurd (omega arith)
+seven_of xs e = absurd (omega arith)
 
 pub seven_written : (xs : List ℕ) → length xs ≡ 7 → afters opening_writes xs ≡ opening_cells
 seven_written xs e = ap (afters opening_writes) (seven_of xs e)

@@ -1,6 +1,7 @@
 -- A lock just opened keeps every promise.
 use Rattle.std.proofs.Common.{◌≡◌, ℕ, zero, suc, ◌-◌, ◌<◌, ◌≤◌, ◌≢◌, ◌⊎◌, ◌↔◌, true, not, eqb, leb, List, [], ◌∷◌, length, get_or, map, ltb, IsOk, Some, None, Option, Result, sym, refl, ap, ◌∙◌, subst, inl, inr, arith}
 use Rattle.std.proofs.lemmas.Bool.{and_from, and_parts, eqb-true, false≢true, le-leb, leb-true}
+use Rattle.std.proofs.Math.ListN.{get_or-map, length-map}
 use Rattle.memory.specs.Calls.{Doing}
 use Rattle.lines.specs.declared.place.Role.{Role}
 use Rattle.lines.specs.declared.place.Role.TheVariants.{Reader, Writer}
@@ -48,9 +49,7 @@ use Rattle.lock.proofs.Runs.{Able, call_kept, excluded, no_right_beside, run_abl
 use Rattle.lock.proofs.SoundRuns.{sound, unbroken}
 
 pub first_record : (roles : List ℕ) (i : ℕ) → (o : Role) × (at (map enlisted roles) i ≡ fresh o)
-first_record [] i = (Reader, refl)
-first_record (b ∷ bs) zero = (role_of b, refl)
-first_record (b ∷ bs) (suc i) = first_record bs i
+first_record roles i = (role_of (get_or roles i 0), get_or-map enlisted roles i 0)
 
 pub no_history : (s : State) (roles : List ℕ) → s.records ≡ map enlisted roles → (t : ℕ) → told (record_of s t) ≡ nothing_yet
 no_history s roles new t = let (o, is) = first_record roles (t - 1) in ap (λ rs. told (at rs (t - 1))) new ∙ ap told is
@@ -109,10 +108,6 @@ module _ {M : Type 0} (does : Doing M) (limit : ℕ) (s : State) (m : M) (number
 
 -- The state of a lock just opened.
 
-count_first : (roles : List ℕ) → length (map enlisted roles) ≡ length roles
-count_first [] = refl
-count_first (b ∷ bs) = ap suc (count_first bs)
-
 none_counted : (roles : List ℕ) → tasks_that is_counted (map enlisted roles) ≡ 0
 none_counted [] = refl
 none_counted (b ∷ bs) = none_counted bs
@@ -134,7 +129,7 @@ first_holds roles some =
       seven = refl;
       count = sym (none_counted roles);
       holders = none_upgraded roles;
-      x_cell = omega (arith, count_first roles);
+      x_cell = omega (arith, length-map roles enlisted);
       x_register = λ i. rw (first_record roles i).1 (omega arith);
       one = λ i. let (o, is) = first_record roles i in rw is (one_at_rest i o);
       pair = λ i j n. let (o, is) = first_record roles i in let (p, is') = first_record roles j in rw (is, is') (two_at_rest i j o p);
@@ -191,8 +186,8 @@ module _ (limit ceiling : ℕ) (s z : State) (roles : List ℕ) (none : open_ref
   pub able : Able limit z
   able =
       let k = asked limit ceiling s roles none in
-      let lawful : Lawful first = record { opened = refl; some = omega (arith, count_first roles, k.some); few = omega (arith, count_first roles, k.few); ordered = λ i. let (o, is) = first_record roles i in ap in_order is ∙ fresh_in_order o; holds = first_holds roles k.some } in
-      subst (Able limit) (sym starts_first) (record { lawful = lawful; fits = omega (arith, count_first roles, k.fits); two = k.two })
+      let lawful : Lawful first = record { opened = refl; some = omega (arith, length-map roles enlisted, k.some); few = omega (arith, length-map roles enlisted, k.few); ordered = λ i. let (o, is) = first_record roles i in ap in_order is ∙ fresh_in_order o; holds = first_holds roles k.some } in
+      subst (Able limit) (sym starts_first) (record { lawful = lawful; fits = omega (arith, length-map roles enlisted, k.fits); two = k.two })
 
   free : unpaid z ≡ z
   free = subst (λ (x : State). unpaid x ≡ x) (sym starts_first) (ap (λ rs. record { number = s.number; opened = true; cells = opening_cells; waiting = []; records = rs; table = s.table }) (first_free roles))

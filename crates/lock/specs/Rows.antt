@@ -40,7 +40,5 @@ pub record Reads (n : ℕ) (a : Answer) : Type 0 where
 
 -- an answer of the row: a thickness, absence, or that the row is damaged; so none of the read's other questions was answered no
 abbrev pub IsOfRow : Answer → Type 0
-IsOfRow done = ⊥
-IsOfRow (hands w k t) = ⊥
 IsOfRow (gives o) = Unit {0}
-IsOfRow (no e) = IsRefused (no e) 32
+IsOfRow a = IsRefused a 32

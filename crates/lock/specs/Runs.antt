@@ -12,10 +12,8 @@ pub record Made : Type 0 where
 
 -- whether a call with this answer was obeyed
 abbrev pub was_obeyed : Answer → Bool
-was_obeyed done = true
-was_obeyed (hands w k t) = true
-was_obeyed (gives o) = true
 was_obeyed (no e) = false
+was_obeyed a = true
 
 -- the task that a call is of
 abbrev pub task_of : Call → ℕ
