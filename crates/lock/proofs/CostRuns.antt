@@ -1,7 +1,6 @@
 -- The cost bound: each task's account is backed by units, of which a place allows no more than Costs says.
-use Rattle.std.proofs.Common.{◌≡◌, ℕ, zero, suc, ◌+◌, ◌-◌, ◌*◌, ◌<◌, ◌≤◌, cond, eqb, ◌≢◌, List, [], ◌∷◌, length, get_or, map, set, IfOk, Some, None, Option, Result, sym, refl, ap, ◌∙◌, subst, inl, inr, arith}
-use Rattle.std.proofs.lemmas.Bool.{cases_eq, eq-eqb, ne_eqb}
-use Rattle.std.proofs.lemmas.List.{get_or-set_same, get_or-set_other}
+use Rattle.std.proofs.Common.{◌≡◌, ℕ, zero, suc, ◌+◌, ◌-◌, ◌*◌, ◌<◌, ◌≤◌, cond, eqb, ◌≢◌, List, [], ◌∷◌, length, get_or, map, set, IfOk, Some, None, Option, Result, sym, refl, ap, ◌∙◌, subst, arith}
+use Rattle.std.proofs.lemmas.Bool.{eq-eqb, ne_eqb}
 use Rattle.memory.specs.declared.operation.Operation.{Operation}
 use Rattle.memory.specs.Calls.{Doing}
 use Rattle.memory.specs.Cells.{zeros}
@@ -12,7 +11,6 @@ use Rattle.lines.specs.declared.place.Line.TheVariants.{L0p1, L16, L25p1, L27p1,
 use Rattle.lines.specs.declared.place.Place.{Place}
 use Rattle.lines.specs.declared.place.Place.TheVariants.{Rest}
 use Rattle.lines.specs.declared.place.Role.{Role}
-use Rattle.lines.specs.declared.place.Role.TheVariants.{Reader}
 use Rattle.lines.specs.declared.track.Track.{Track}
 use Rattle.lines.specs.Deeds.{cells_after, finds, waiting_after}
 use Rattle.lines.specs.Lines.{at_rest, deed_of, next_deed, settle}
@@ -21,13 +19,12 @@ use Rattle.calls.specs.declared.record.Record.{Record}
 use Rattle.calls.specs.declared.refusal.Refusal.{Refusal}
 use Rattle.calls.specs.Accounts.{charged}
 use Rattle.calls.specs.Opening.{Opens, Wrote, enlisted, open_refusal, opening_writes}
-use Rattle.calls.specs.Records.{arrived, fresh, settled}
+use Rattle.calls.specs.Records.{arrived, settled}
 use Rattle.calls.specs.States.{State, record_of}
-use Rattle.calls.specs.Steps.{Answer, Call, Calls, Carried, LineShares, Verdict, after_deed, at_once, judge, line, lined, refuse}
+use Rattle.calls.specs.Steps.{Answer, Call, Calls, Verdict, after_deed, at_once, judge, line, refuse}
 use Rattle.lock.specs.Promises.{CostBound}
 use Rattle.lock.specs.History.{History, history}
 use Rattle.lock.specs.Runs.{Made, RunWhile}
-use Rattle.lock.proofs.Allowed.{allowed}
 use Rattle.lock.specs.Counted.{masks_after, unit_share}
 use Rattle.lock.proofs.Copies.{ChargedByUnits, deed_charged, flag, length-masks_after, opened_masks, purse_other, purse_own, touches_known, unit_share-charge}
 use Rattle.lock.proofs.Costs.{Paid, Units, account_before, at_most_20, charge, other_copies, others_kept, own_copies, payer_kept, purse}
@@ -39,7 +36,7 @@ use Rattle.lock.proofs.Meant.{Meant, Quiet, meant}
 use Rattle.lock.proofs.Opened.{seven_of}
 use Rattle.lock.proofs.Histories.{told_by_run}
 use Rattle.lock.proofs.Promised.{able, first_record, new_records, no_history}
-use Rattle.lock.proofs.Runs.{Able, call_able}
+use Rattle.lock.proofs.Runs.{Able, Obeyed, call_able, call_kept}
 
 -- An account is backed by units, at the ceiling each.
 
@@ -176,25 +173,18 @@ module _ {M : Type 0} (does : Doing M) (masks : M → List ℕ) (top : M → ℕ
         backed = λ j. subst (λ x. Backed ceiling x (c.units j)) (sym (q.accounts j)) (c.backed j);
       }
 
-  same_memory : (s : State) (m n : M) → n ≡ m → Costed ceiling s (masks m) × (top m ≡ ceiling) → Costed ceiling s (masks n) × (top n ≡ ceiling)
-  same_memory s m n e c = subst (λ x. Costed ceiling s (masks x) × (top x ≡ ceiling)) (sym e) c
-
-  carried_costed : (v : Verdict) (s z : State) (m n : M) (a : Answer) → Meant s v → Bounded s m → Carried does limit v s m a z n → Costed ceiling z (masks n) × (top n ≡ ceiling)
-  carried_costed (refuse e) s z m n a h b (share, told, x, y) = subst (λ w. Costed ceiling w (masks n) × (top n ≡ ceiling)) (sym y) (same_memory s m n told.1 (b.costed, b.same))
-  carried_costed (line t r) s z m n a h b (share, told, x, y) =
+  obeyed_costed : (v : Verdict) (s z : State) (m n : M) (a : Answer) → Meant s v → Bounded s m → Obeyed does v s m a z n → Costed ceiling z (masks n) × (top n ≡ ceiling)
+  obeyed_costed (refuse e) s z m n a h b (x, y, same) = rw (y, same) (b.costed, b.same)
+  obeyed_costed (line t r) s z m n a h b (x, (share, y, shares)) =
       let d = next_deed t r.track in
-      let g = b.able in
-      let none = allowed limit s t r g.lawful g.fits g.two h in
-      let left : z ≡ after_deed t r d share s = subst (λ o. z ≡ (lined o t r d share s).1) none y in
-      let charges = deed_charged does masks top law d m n t share (subst (λ o. LineShares does o m t d share n) none told) in
+      let charges = deed_charged does masks top law d m n t share shares in
       let less : share ≤ ceiling * unit_share d t (masks m) = subst (λ k. share ≤ k * unit_share d t (masks m)) b.same charges.within in
-      subst (λ w. Costed ceiling w (masks n) × (top n ≡ ceiling)) (sym left) (line_costed ceiling s t r share (masks m) (masks n) g.lawful h less charges.left b.costed, charges.same_ceiling ∙ b.same)
-  carried_costed (at_once w q) s z m n a h b (share, told, x, y) =
-      subst (λ w. Costed ceiling w (masks n) × (top n ≡ ceiling)) (sym y) (same_memory q m n told.1 (same_costed s q (masks m) w h b.costed, b.same))
+      rw y (line_costed ceiling s t r share (masks m) (masks n) b.able.lawful h less charges.left b.costed, charges.same_ceiling ∙ b.same)
+  obeyed_costed (at_once w q) s z m n a h b (x, y, same) = rw (y, same) (same_costed s q (masks m) w h b.costed, b.same)
 
   pub call_bounded : (c : Call) (s z : State) (m n : M) (a : Answer) → Bounded s m → Calls does limit c s m a z n → Bounded z n
   call_bounded c s z m n a b h =
-      let k = carried_costed (judge c s) s z m n a (meant c s b.able.lawful) b h in
+      let k = obeyed_costed (judge c s) s z m n a (meant c s b.able.lawful) b (call_kept does limit c s z m n a b.able h).obeyed in
       record { able = call_able does limit c s z m n a b.able h; costed = k.0; same = k.1 }
 
   pub run_bounded : (P : State → Type 0) (es : List Made) (s z : State) (m n : M) → Bounded s m → RunWhile does limit P es s m z n → Bounded z n

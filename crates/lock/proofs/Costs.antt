@@ -1,8 +1,8 @@
 -- What an attempt has cost at most, by the place of its task, and that every line keeps it.
 --
 -- The cost is counted in units: an access that leaves the cache is one, and a memory charges at most its ceiling for it.
-use Rattle.std.proofs.Common.{◌≡◌, ℕ, zero, suc, ◌+◌, ◌-◌, ◌*◌, ◌≤◌, Bool, true, cond, ◌&&◌, eqb, leb, ◌≢◌, List, [], ◌∷◌, get_or, refl, inl, inr, arith}
-use Rattle.std.proofs.lemmas.Bool.{cases_eq, cases_lt, eq-eqb, ne_eqb, lt-ltb, le-ltb, leb-true, and_parts}
+use Rattle.std.proofs.Common.{◌≡◌, ℕ, suc, ◌+◌, ◌-◌, ◌*◌, ◌≤◌, cond, eqb, leb, ◌≢◌, List, [], ◌∷◌, get_or, refl, inl, inr, arith}
+use Rattle.std.proofs.lemmas.Bool.{cases_eq, cases_lt, eq-eqb, ne_eqb, lt-ltb, le-ltb, leb-true}
 use Rattle.memory.specs.declared.operation.Operation.TheVariants.{Read, Write, Add, Swap}
 use Rattle.lines.specs.declared.deed.Deed.{Deed}
 use Rattle.lines.specs.declared.deed.Deed.TheVariants.{Touch}

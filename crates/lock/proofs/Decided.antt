@@ -1,5 +1,5 @@
 -- But for costs, a run makes of the state what the calls alone make of it.
-use Rattle.std.proofs.Common.{◌≡◌, ℕ, zero, suc, ◌-◌, List, [], ◌∷◌, length, get_or, set, map, Some, None, Option, sym, refl, ap, ap₂, ◌∙◌}
+use Rattle.std.proofs.Common.{◌≡◌, ℕ, ◌-◌, List, [], ◌∷◌, length, set, map, Some, None, Option, sym, refl, ap, ap₂, ◌∙◌}
 use Rattle.std.proofs.Math.ListN.{get_or-map, length-map}
 use Rattle.std.proofs.Math.Seq.{map-set}
 use Rattle.memory.specs.Calls.{Doing}

@@ -11,12 +11,13 @@ use Rattle.lines.specs.Deeds.{finds}
 use Rattle.lines.specs.Lines.{next_deed}
 use Rattle.lines.specs.Rights.{right_of}
 use Rattle.calls.specs.declared.record.Record.{Record}
+use Rattle.calls.specs.declared.refusal.Refusal.{Refusal}
 use Rattle.calls.specs.declared.refusal.Refusal.TheVariants.{Upgrades}
 use Rattle.calls.specs.Accounts.{charged}
 use Rattle.calls.specs.Questions.{out_for}
 use Rattle.calls.specs.Records.{begun, downgrading, fresh, leaving, settled, upgrading, with_out}
 use Rattle.calls.specs.States.{State, record_of}
-use Rattle.calls.specs.Steps.{Answer, Call, Calls, Verdict, advance, at_once, begin, done, downgrade, judge, lay_back, leave, line, put, read, refuse, take, upgrade}
+use Rattle.calls.specs.Steps.{Answer, Call, Calls, Verdict, advance, at_once, begin, done, downgrade, judge, lay_back, leave, line, no, put, read, refuse, take, upgrade}
 use Rattle.calls.proofs.Obeyed.{call_same, yes}
 use Rattle.calls.proofs.Sound.{has_out, parts}
 use Rattle.lock.specs.Charges.{Counts, Finishes, cost_after, unfinished}
@@ -24,6 +25,7 @@ use Rattle.lock.specs.History.{History, history, history_from, made_in, nothing_
 use Rattle.lock.specs.Needs.{AnswersSo, RefusedAsDamaged, Needs}
 use Rattle.lock.specs.OneLine.{Did, line_done, line_of, next_line}
 use Rattle.lock.specs.Promises.{HasRight}
+use Rattle.lock.specs.Rows.{last_put, left_in}
 use Rattle.lock.specs.Runs.{Made, RunWhile, task_of, was_obeyed}
 use Rattle.lock.proofs.Holds.{at, each_set}
 use Rattle.lock.proofs.Asked.{Passed, judged, outcome}
@@ -36,11 +38,15 @@ use Rattle.lock.proofs.Recorded.{told, says_of, arrived_told, cond_same, quiet_f
 
 -- What a verdict says of the call that it is of.
 
+abbrev pub RowOf : ℕ → State → ℕ
+RowOf row s = get_or s.table row 0
+
 -- the line of task u, whose record then is r
 pub record LineSays (c : Call) (s : State) (u : ℕ) (r : Record) : Type 0 where
   pub is : u ≡ task_of c
   pub line : line_of c (record_of s u).track ≡ next_line r.track.place
   pub away : Away r.track.place
+  pub leaves : (row : ℕ) (a : Answer) (v : ℕ) → left_in row c a v ≡ v
   pub says : told r ≡ obeyed_in (told (record_of s u)) c
   pub ends : (f : Found) (share : ℕ) → Finishes (record_of s u) (settled r f share)
   pub costs : (share : ℕ) → min (r.account.cost + share) 4294967295 ≡ cost_after (record_of s u).account.cost share c
@@ -51,6 +57,7 @@ pub record LineSays (c : Call) (s : State) (u : ℕ) (r : Record) : Type 0 where
 pub record AnswerSays (c : Call) (s : State) (a : Answer) (z : State) : Type 0 where
   pub number : z.number ≡ s.number
   pub rows : length z.table ≡ length s.table
+  pub row : (row : ℕ) → RowOf row z ≡ left_in row c a (RowOf row s)
   pub no_line : line_of c (record_of s (task_of c)).track ≡ None
   pub says : (t : ℕ) → 1 ≤ t → told (record_of z t) ≡ made_in t (told (record_of s t)) (record { call = c; answer = a })
   pub still : (cost share : ℕ) → cost_after cost share c ≡ cost
@@ -90,45 +97,56 @@ ends_away r q h e k f share = moves r.track.place (settled q f share).track.plac
 held_away : (s : State) (w : Right) (t : ℕ) → Holding s w t → Away (record_of s t).track.place
 held_away s w t p = let k = (record_of s t).track in right_away k.place k.role k.standing w p.right
 
+row_put : (s : State) (k t r n row : ℕ) → r < length s.table → get_or (set s.table r n) row 0 ≡ left_in row (put k t r n) done (RowOf row s)
+row_put s k t r n row within =
+    elim (cases_eq r row) [
+      | inl is ↦ rw (eq-eqb r row is) (subst (λ j. get_or (set s.table r n) j 0 ≡ n) is (get_or-set_same s.table r n 0 within))
+      | inr other ↦ rw (ne_eqb r row other) (get_or-set_other s.table r row n 0 (λ e. other (sym e)))
+    ]
+
+refused_leaves : (row : ℕ) (c : Call) (e : Refusal) (v : ℕ) → left_in row c (no e) v ≡ v
+refused_leaves row (put k t r n) e v = refl
+refused_leaves row c e v = refl
+
 -- what a call says where none of its questions is answered no
 judged_says : (c : Call) (s : State) → Lawful s → Passed c s → Says c s (outcome c s)
 judged_says (begin t) s g (there, (free, _)) =
     let r = record_of s t in
     let k = task_there s t there in
     let n : r.account.finished + 1 ≡ r.account.finished + unfinished r.track.place + 1 = omega (arith, rests_before r.track.place r.account.finished free) in
-    record { is = refl; line = refl; away = tt; says = ap (λ n. says_of r.out n 0 0) n; ends = λ f share. begins r.track.place r.track.role (begun r).track f r.account.finished r.account (charged (begun r).account share) free refl refl; costs = λ share. ap (λ n. min n 4294967295) (omega arith); needs = (k.0, k.1, may_begin r.track.place r.account.finished free); answers = refl }
+    record { is = refl; line = refl; leaves = λ row a v. refl; away = tt; says = ap (λ n. says_of r.out n 0 0) n; ends = λ f share. begins r.track.place r.track.role (begun r).track f r.account.finished r.account (charged (begun r).account share) free refl refl; costs = λ share. ap (λ n. min n 4294967295) (omega arith); needs = (k.0, k.1, may_begin r.track.place r.account.finished free); answers = refl }
 judged_says (advance t) s g (there, (on, _)) =
     let r = record_of s t in
     let k = task_there s t there in
-    record { is = refl; line = refl; away = on_line_away r.track.place on; says = refl; ends = ends_away r r (on_line_away r.track.place on) refl refl; costs = λ share. refl; needs = (k.0, k.1, may_advance r.track.place on); answers = refl }
+    record { is = refl; line = refl; leaves = λ row a v. refl; away = on_line_away r.track.place on; says = refl; ends = ends_away r r (on_line_away r.track.place on) refl refl; costs = λ share. refl; needs = (k.0, k.1, may_advance r.track.place on); answers = refl }
 judged_says (take w t) s g (there, (may, _)) =
     let r = record_of s t in
     let k = task_there s t there in
-    record { number = refl; rows = refl; no_line = refl; says = λ u low. replaced (take w t) s u t (with_out r (Some w)) low k.0 k.1 refl refl; still = λ cost share. refl; needs = (k.0, k.1, takes (right_of r.track) r.out w may); answers = λ o. refl; refused = λ o. absurd (false≢true (sym o)) }
+    record { number = refl; rows = refl; row = λ row. refl; no_line = refl; says = λ u low. replaced (take w t) s u t (with_out r (Some w)) low k.0 k.1 refl refl; still = λ cost share. refl; needs = (k.0, k.1, takes (right_of r.track) r.out w may); answers = λ o. refl; refused = λ o. absurd (false≢true (sym o)) }
 judged_says (lay_back w k t) s g (out, _) =
     let p = pass_there s w k t g out in
-    record { number = refl; rows = refl; no_line = refl; says = λ u low. replaced (lay_back w k t) s u t (with_out (record_of s t) None) low p.low p.high refl refl; still = λ cost share. refl; needs = (p.low, p.high, shown s w k t out); answers = λ o. refl; refused = λ o. absurd (false≢true (sym o)) }
+    record { number = refl; rows = refl; row = λ row. refl; no_line = refl; says = λ u low. replaced (lay_back w k t) s u t (with_out (record_of s t) None) low p.low p.high refl refl; still = λ cost share. refl; needs = (p.low, p.high, shown s w k t out); answers = λ o. refl; refused = λ o. absurd (false≢true (sym o)) }
 judged_says (upgrade k t) s g (out, (few, _)) =
     let r = record_of s t in
     let p = pass_there s Reading k t g out in
     let away = held_away s Reading t p in
-    record { is = refl; line = refl; away = tt; says = ap (λ n. says_of None (r.account.finished + n) (r.account.u + 1) r.account.g) (sym (away_unfinished r.track.place away)); ends = ends_away r (upgrading r) away refl refl; costs = λ share. refl; needs = (p.low, p.high, (shown s Reading k t out, ltb-true r.account.u 1000 (yes (ltb r.account.u 1000) Upgrades None few).0)); answers = refl }
+    record { is = refl; line = refl; leaves = λ row a v. refl; away = tt; says = ap (λ n. says_of None (r.account.finished + n) (r.account.u + 1) r.account.g) (sym (away_unfinished r.track.place away)); ends = ends_away r (upgrading r) away refl refl; costs = λ share. refl; needs = (p.low, p.high, (shown s Reading k t out, ltb-true r.account.u 1000 (yes (ltb r.account.u 1000) Upgrades None few).0)); answers = refl }
 judged_says (downgrade k t) s g (out, _) =
     let r = record_of s t in
     let p = pass_there s Writing k t g out in
     let away = held_away s Writing t p in
-    record { is = refl; line = refl; away = tt; says = ap (λ n. says_of None (r.account.finished + n) r.account.u (r.account.g + 1)) (sym (away_unfinished r.track.place away)); ends = ends_away r (downgrading r) away refl refl; costs = λ share. refl; needs = (p.low, p.high, shown s Writing k t out); answers = refl }
+    record { is = refl; line = refl; leaves = λ row a v. refl; away = tt; says = ap (λ n. says_of None (r.account.finished + n) r.account.u (r.account.g + 1)) (sym (away_unfinished r.track.place away)); ends = ends_away r (downgrading r) away refl refl; costs = λ share. refl; needs = (p.low, p.high, shown s Writing k t out); answers = refl }
 judged_says (leave w k t) s g (out, _) =
     let r = record_of s t in
     let p = pass_there s w k t g out in
     let away = held_away s w t p in
-    record { is = refl; line = refl; away = tt; says = ap (λ n. says_of None (r.account.finished + n) r.account.u r.account.g) (sym (away_unfinished r.track.place away)); ends = ends_away r (leaving r) away refl refl; costs = λ share. refl; needs = (p.low, p.high, shown s w k t out); answers = refl }
+    record { is = refl; line = refl; leaves = λ row a v. refl; away = tt; says = ap (λ n. says_of None (r.account.finished + n) r.account.u r.account.g) (sym (away_unfinished r.track.place away)); ends = ends_away r (leaving r) away refl refl; costs = λ share. refl; needs = (p.low, p.high, shown s w k t out); answers = refl }
 judged_says (read w k t row) s g (out, (is, _)) =
     let p = pass_there s w k t g out in
-    record { number = refl; rows = refl; no_line = refl; says = λ u low. cond_same _ _; still = λ cost share. refl; needs = (p.low, p.high, (shown s w k t out, in_rows row (length s.table) is)); answers = told_row (get_or s.table row 0); refused = λ o. refl }
+    record { number = refl; rows = refl; row = λ row. refl; no_line = refl; says = λ u low. cond_same _ _; still = λ cost share. refl; needs = (p.low, p.high, (shown s w k t out, in_rows row (length s.table) is)); answers = told_row (get_or s.table row 0); refused = λ o. refl }
 judged_says (put k t row n) s g (out, (is, (fits, _))) =
     let p = pass_there s Writing k t g out in
-    record { number = refl; rows = length-set s.table row n; no_line = refl; says = λ u low. cond_same _ _; still = λ cost share. refl; needs = (p.low, p.high, (shown s Writing k t out, in_rows row (length s.table) is, (is_thickness n fits).0, (is_thickness n fits).1)); answers = λ o. refl; refused = λ o. absurd (false≢true (sym o)) }
+    record { number = refl; rows = length-set s.table row n; row = λ i. row_put s k t row n i (in_rows row (length s.table) is); no_line = refl; says = λ u low. cond_same _ _; still = λ cost share. refl; needs = (p.low, p.high, (shown s Writing k t out, in_rows row (length s.table) is, (is_thickness n fits).0, (is_thickness n fits).1)); answers = λ o. refl; refused = λ o. absurd (false≢true (sym o)) }
 
 pub call_says : (c : Call) (s : State) → Lawful s → Says c s (judge c s)
 call_says c s g = judged (Says c s) c s (λ e own. tt) (judged_says c s g)
@@ -138,6 +156,7 @@ call_says c s g = judged (Says c s) c s (λ e own. tt) (judged_says c s g)
 pub record Left {M : Type 0} (c : Call) (s : State) (m : M) (a : Answer) (z : State) (n : M) : Type 0 where
   pub number : z.number ≡ s.number
   pub rows : length z.table ≡ length s.table
+  pub row : (row : ℕ) → RowOf row z ≡ left_in row c a (RowOf row s)
   pub did : Did (task_of c) (line_done s (record { call = c; answer = a })) s z
   pub says : (t : ℕ) → 1 ≤ t → told (record_of z t) ≡ made_in t (told (record_of s t)) (record { call = c; answer = a })
   pub ends : (t : ℕ) → 1 ≤ t → Finishes (record_of s t) (record_of z t)
@@ -152,6 +171,7 @@ left does c (refuse e) s z m n a (x, y, same) h k =
     record {
       number = ap (λ (w : State). w.number) y;
       rows = ap (λ (w : State). length w.table) y;
+      row = λ i. rw (x, y) (sym (refused_leaves i c e (RowOf i s)));
       did = subst (λ o. Did (task_of c) o s z) (sym none) (ap (λ (w : State). w.cells) y, ap (λ (w : State). w.waiting) y, λ u. ap (λ w. (record_of w u).track) y);
       says = λ t low. ap (λ w. told (record_of w t)) y ∙ ap (λ b. made_in t (told (record_of s t)) (record { call = c; answer = b })) (sym x);
       ends = λ t low. quiet_finishes (record_of s t) (record_of z t) (ap (λ w. (record_of w t).track) y) (ap (λ w. (record_of w t).account) y);
@@ -166,6 +186,7 @@ left does c (line u r) s z m n a (x, (share, y, shares)) h k =
     record {
       number = ap (λ (w : State). w.number) y;
       rows = ap (λ (w : State). length w.table) y;
+      row = λ i. ap (RowOf i) y ∙ sym (k.leaves i a (RowOf i s));
       did = subst (λ o. Did (task_of c) o s z) (sym (line_is c s u r a h x k.is k.line)) (subst (λ t. Did t (Some h.next) s z) k.is (subst (λ w. Did u (Some h.next) s w) (sym y) (line_did s u r share h.next h.low h.high h.leads)));
       says = λ t low. ap (λ w. told (record_of w t)) y ∙ replaced c s t u q low h.low h.high k.is says ∙ ap (λ b. made_in t (told (record_of s t)) (record { call = c; answer = b })) (sym x);
       ends = λ t low. subst (λ w. Finishes (record_of s t) (record_of w t)) (sym y) (line_finishes s t u q (k.ends f share));
@@ -178,6 +199,7 @@ left does c (at_once b w) s z m n a (x, y, same) h k =
     record {
       number = ap (λ (w : State). w.number) y ∙ k.number;
       rows = ap (λ (w : State). length w.table) y ∙ k.rows;
+      row = λ i. rw (x, y) (k.row i);
       did = subst (λ o. Did (task_of c) o s z) (sym none) (subst (λ q. Did (task_of c) None s q) (sym y) (h.cells, h.waiting, λ u. h.tracks.each (u - 1)));
       says = λ t low. ap (λ w. told (record_of w t)) y ∙ k.says t low ∙ ap (λ b. made_in t (told (record_of s t)) (record { call = c; answer = b })) (sym x);
       ends = λ t low. subst (λ w. Finishes (record_of s t) (record_of w t)) (sym y) (quiet_finishes (record_of s t) (record_of w t) (h.tracks.each (t - 1)) (h.accounts (t - 1)));
@@ -187,29 +209,30 @@ left does c (at_once b w) s z m n a (x, y, same) h k =
     }
 
 -- a pass that is out is for the right that its task has
-fits_right : (z : State) (t : ℕ) (w : Right) → Lawful z → (record_of z t).out ≡ Some w → HasRight z t w
+pub fits_right : (z : State) (t : ℕ) (w : Right) → Lawful z → (record_of z t).out ≡ Some w → HasRight z t w
 fits_right z t w g e = let r = record_of z t in has_out (right_of r.track) r.out w (parts r (g.ordered (t - 1))).pass (ap (λ o. out_for o w) e ∙ same_itself w)
 
 none_beside : (z : State) (t u : ℕ) → Lawful z → 1 ≤ t → 1 ≤ u → t ≢ u → HasRight z t Writing → (record_of z u).out ≡ None
 none_beside z t u g low low' n w = none_of (record_of z u).out (λ v e. let h = sym (no_right_beside z t u g low low' n w) ∙ fits_right z u v g e in cc)
 
 -- what stays over a run, and what it says of each task
-record Ran (es : List Made) (s z : State) : Type 0 where
-  number : z.number ≡ s.number
-  tasks : length z.records ≡ length s.records
-  rows : length z.table ≡ length s.table
-  says : (t : ℕ) → 1 ≤ t → told (record_of z t) ≡ history_from t es (told (record_of s t))
+pub record Ran (es : List Made) (s z : State) : Type 0 where
+  pub number : z.number ≡ s.number
+  pub tasks : length z.records ≡ length s.records
+  pub rows : length z.table ≡ length s.table
+  pub row : (row : ℕ) → RowOf row z ≡ last_put row es (RowOf row s)
+  pub says : (t : ℕ) → 1 ≤ t → told (record_of z t) ≡ history_from t es (told (record_of s t))
 
 module _ {M : Type 0} (does : Doing M) (limit : ℕ) where
   pub call_left : (c : Call) (s z : State) (m n : M) (a : Answer) → Able limit s → Calls does limit c s m a z n → Left c s m a z n
   call_left c s z m n a g h = left does c (judge c s) s z m n a (call_kept does limit c s z m n a g h).obeyed (meant c s g.lawful) (call_says c s g.lawful)
 
-  ran : (P : State → Type 0) (es : List Made) (s z : State) (m n : M) → Able limit s → RunWhile does limit P es s m z n → Ran es s z
-  ran P [] s z m n g (p, same, k) = record { number = ap (λ (w : State). w.number) same; tasks = ap (λ (w : State). length w.records) same; rows = ap (λ (w : State). length w.table) same; says = λ t low. ap (λ w. told (record_of w t)) same }
+  pub ran : (P : State → Type 0) (es : List Made) (s z : State) (m n : M) → Able limit s → RunWhile does limit P es s m z n → Ran es s z
+  ran P [] s z m n g (p, same, k) = record { number = ap (λ (w : State). w.number) same; tasks = ap (λ (w : State). length w.records) same; rows = ap (λ (w : State). length w.table) same; row = λ i. ap (RowOf i) same; says = λ t low. ap (λ w. told (record_of w t)) same }
   ran P (e ∷ es) s z m n g (p, (y, k, call, run)) =
       let rest = ran P es y z k n (call_able does limit e.call s y m k e.answer g call) run in
       let first = call_left e.call s y m k e.answer g call in
-      record { number = rest.number ∙ first.number; tasks = rest.tasks ∙ (call_same does limit s y m k e.call e.answer call).count; rows = rest.rows ∙ first.rows; says = λ t low. rest.says t low ∙ ap (history_from t es) (first.says t low) }
+      record { number = rest.number ∙ first.number; tasks = rest.tasks ∙ (call_same does limit s y m k e.call e.answer call).count; rows = rest.rows ∙ first.rows; row = λ i. rest.row i ∙ ap (last_put i es) (first.row i); says = λ t low. rest.says t low ∙ ap (history_from t es) (first.says t low) }
 
   -- A run from a state whose records have no history yet.
   module _ (s : State) (first : (t : ℕ) → told (record_of s t) ≡ nothing_yet) (able : Able limit s) (P : State → Type 0) (es : List Made) (z : State) (m n : M) (run : RunWhile does limit P es s m z n) where

@@ -39,11 +39,11 @@ use Rattle.lock.specs.Runs.{Made, Run}
 use Rattle.lock.proofs.Decided.{decided}
 use Rattle.lock.proofs.Facts.{OneTask, TwoTasks, seen, seen_cells}
 use Rattle.lock.proofs.Charged.{charged_account}
-use Rattle.lock.proofs.Histories.{call_left, counts, granted, may_read, passes}
+use Rattle.lock.proofs.Histories.{RowOf, call_left, counts, granted, may_read, passes, ran}
 use Rattle.lock.proofs.Holds.{Holds, at}
 use Rattle.lock.proofs.Judged.{Lawful, pass_there}
 use Rattle.lock.proofs.Measured.{reads}
-use Rattle.lock.proofs.RowRuns.{of_row, read_told, run_row, table_still}
+use Rattle.lock.proofs.RowRuns.{of_row, read_told, row_still}
 use Rattle.lock.proofs.Recorded.{told}
 use Rattle.lock.proofs.Runs.{Able, call_kept, excluded, no_right_beside, run_able, section_with_right}
 use Rattle.lock.proofs.SoundRuns.{sound, unbroken}
@@ -87,14 +87,14 @@ module _ {M : Type 0} (does : Doing M) (limit : ℕ) (s : State) (m : M) (number
         exclusion = λ es z n run. (section_with_right z, λ t u low low' apart w. let k = (able es z n run).lawful in (excluded z t u k low low' apart w, no_right_beside z t u k low low' apart w));
         measured_rows = λ es z n run w k t row a y p needs call.
             let may = may_read does limit s first g _ es z m n run w k t row needs in
-            reads a _ ((read_told does limit z y n p w k t row a may call).0 ∙ ap row_answer (run_row does limit _ row es s z m n run));
+            reads a _ ((read_told does limit z y n p w k t row a may call).0 ∙ ap row_answer ((ran does limit _ es s z m n g run).row row));
         steady_rows = λ es z n run w k t row a z' n' call of ds y p during v j b y' p' call' of'.
             let g1 = able es z n run in
             let may = of_row does limit z z' n n' w k t row a call of in
             let first = read_told does limit z z' n n' w k t row a may call in
             let second = read_told does limit y y' p p' v j t row b (of_row does limit y y' p p' v j t row b call' of') call' in
-            let still = table_still does limit t ds z' y n' p (subst (Able limit) (sym first.1) g1) (pass_there z w k t g1.lawful may.0).low during in
-            second.0 ∙ ap (λ xs. row_answer (get_or xs row 0)) (still ∙ ap (λ (x : State). x.table) first.1) ∙ sym first.0;
+            let still = row_still does limit row t ds z' y n' p (subst (Able limit) (sym first.1) g1) (pass_there z w k t g1.lawful may.0).low during in
+            second.0 ∙ ap row_answer (still ∙ ap (RowOf row) first.1) ∙ sym first.0;
         obeyed_calls = λ es z n run c a y p call. granted does limit s first g _ es z m n run c a y p call;
         passes = λ es z n run t low. passes does limit s first g _ es z m n run t low;
         counted_accounts = λ es z n run t low. counts does limit s first g _ es z m n run t low;

@@ -2,11 +2,11 @@
 use Rattle.std.specs.Prelude.{◌≡◌, ℕ, ◌+◌, Bool, true, false, min, cond, not, ◌&&◌, ◌==◌}
 use Rattle.memory.specs.Calls.{Doing}
 use Rattle.lines.specs.declared.deed.Deed.{Deed}
-use Rattle.lines.specs.declared.deed.Deed.TheVariants.{Touch, Join, First, Quit, Nothing}
+use Rattle.lines.specs.declared.deed.Deed.TheVariants.{Touch}
 use Rattle.lines.specs.declared.place.Place.{Place}
-use Rattle.lines.specs.declared.place.Place.TheVariants.{Rest, Inside, Next}
+use Rattle.lines.specs.declared.place.Place.TheVariants.{Rest}
 use Rattle.calls.specs.declared.record.Record.{Record}
-use Rattle.calls.specs.Steps.{Call, advance, begin, downgrade, lay_back, leave, put, read, take, upgrade}
+use Rattle.calls.specs.Steps.{Call, begin, lay_back, put, read, take}
 use Rattle.lock.specs.History.{History}
 use Rattle.lock.specs.Runs.{Made, task_of, was_obeyed}
 

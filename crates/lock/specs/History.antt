@@ -1,7 +1,7 @@
 -- What the calls made, and their answers, say of a task: the pass that is out to it, its attempts, and the changes of its right.
 use Rattle.std.specs.Prelude.{ℕ, ◌+◌, cond, ◌&&◌, List, [], ◌∷◌, Some, None, Option, ◌==◌}
 use Rattle.lines.specs.declared.place.Right.{Right}
-use Rattle.calls.specs.Steps.{Call, advance, begin, downgrade, lay_back, leave, put, read, take, upgrade}
+use Rattle.calls.specs.Steps.{Call, begin, downgrade, lay_back, leave, take, upgrade}
 use Rattle.lock.specs.Runs.{Made, task_of, was_obeyed}
 
 -- the right of the pass that is out to a task, how many begins of it were obeyed, and how many upgrades and downgrades since the latest

@@ -4,13 +4,13 @@ use Rattle.lines.specs.declared.deed.Deed.{Deed}
 use Rattle.lines.specs.declared.deed.Deed.TheVariants.{Nothing}
 use Rattle.lines.specs.declared.place.Line.{Line}
 use Rattle.lines.specs.declared.place.Place.{Place}
-use Rattle.lines.specs.declared.place.Place.TheVariants.{Rest, Inside, Next}
+use Rattle.lines.specs.declared.place.Place.TheVariants.{Next}
 use Rattle.lines.specs.declared.track.Track.{Track}
 use Rattle.lines.specs.Deeds.{cells_after, finds, waiting_after}
 use Rattle.lines.specs.Lines.{deed_of, settle}
 use Rattle.lines.specs.Starts.{begin_line, downgrade_line, leave_line, upgrade_line}
 use Rattle.calls.specs.States.{State, record_of}
-use Rattle.calls.specs.Steps.{Call, advance, begin, downgrade, lay_back, leave, put, read, take, upgrade}
+use Rattle.calls.specs.Steps.{Call, advance, begin, downgrade, leave, upgrade}
 use Rattle.lock.specs.Runs.{Made, task_of, was_obeyed}
 
 -- the line that a task at this place is before, if it is before one

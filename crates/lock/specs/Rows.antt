@@ -1,7 +1,7 @@
 -- The calls on a row of the table, what a run leaves in one, and what a read answers by it.
 use Rattle.std.specs.Prelude.{◌≡◌, ℕ, ◌<◌, ◌≤◌, cond, ◌&&◌, List, [], ◌∷◌, Some, None, ◌==◌, ◌↔◌}
 use Rattle.lines.specs.declared.place.Right.{Right}
-use Rattle.calls.specs.Steps.{Answer, Call, done, gives, hands, no, put, read}
+use Rattle.calls.specs.Steps.{Answer, Call, gives, put, read}
 use Rattle.lock.specs.declared.pass.Pass.{Pass}
 use Rattle.lock.specs.Needs.{IsRefused}
 use Rattle.lock.specs.Runs.{Made, was_obeyed}

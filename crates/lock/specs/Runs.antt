@@ -3,7 +3,7 @@
 use Rattle.std.specs.Prelude.{◌≡◌, ℕ, Bool, true, false, List, [], ◌∷◌}
 use Rattle.memory.specs.Calls.{Doing}
 use Rattle.calls.specs.States.{State}
-use Rattle.calls.specs.Steps.{Answer, Call, Calls, advance, begin, done, downgrade, gives, hands, lay_back, leave, no, put, read, take, upgrade}
+use Rattle.calls.specs.Steps.{Answer, Call, Calls, advance, begin, downgrade, lay_back, leave, no, put, read, take, upgrade}
 
 -- a call that was made, and what it answered
 pub record Made : Type 0 where
