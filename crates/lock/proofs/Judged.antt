@@ -52,23 +52,19 @@ module _ (i prev curr d x : ℕ) where
 
   pub upgrade_leads : (p : Place) (o : Role) (s : Standing) → right_at p o s ≡ Some Reading → Leads i (track p o s) (goes (track p o s) upgrade_line) L27p1
   upgrade_leads Inside Reader Normal h = record { before = (omega arith, omega arith, refl); deed = λ t. refl; steps = λ f. refl }
-  upgrade_leads Inside Reader Downgraded h = record { before = (omega arith, omega arith, refl); deed = λ t. refl; steps = λ f. refl }
-  upgrade_leads Inside Writer Downgraded h = record { before = (omega arith, omega arith, refl); deed = λ t. refl; steps = λ f. refl }
+  upgrade_leads Inside o Downgraded h = record { before = (omega arith, omega arith, refl); deed = λ t. refl; steps = λ f. refl }
   upgrade_leads p o s h = cc
 
   pub downgrade_leads : (p : Place) (o : Role) (s : Standing) → right_at p o s ≡ Some Writing → Leads i (track p o s) (goes (track p o s) (downgrade_line s)) (downgrade_line s)
   downgrade_leads Inside Writer Normal h = record { before = refl; deed = λ t. refl; steps = λ f. refl }
-  downgrade_leads Inside Reader Upgraded h = record { before = refl; deed = λ t. refl; steps = λ f. refl }
-  downgrade_leads Inside Writer Upgraded h = record { before = refl; deed = λ t. refl; steps = λ f. refl }
+  downgrade_leads Inside o Upgraded h = record { before = refl; deed = λ t. refl; steps = λ f. refl }
   downgrade_leads p o s h = cc
 
   pub leave_leads : (p : Place) (o : Role) (s : Standing) (w : Right) → right_at p o s ≡ Some w → Leads i (track p o s) (goes (track p o s) (leave_line o s)) (leave_line o s)
   leave_leads Inside Reader Normal w h = record { before = (omega arith, omega arith, refl); deed = λ t. refl; steps = λ f. refl }
-  leave_leads Inside Writer Normal w h = record { before = refl; deed = λ t. refl; steps = λ f. refl }
-  leave_leads Inside Reader Upgraded w h = record { before = refl; deed = λ t. refl; steps = λ f. refl }
-  leave_leads Inside Writer Upgraded w h = record { before = refl; deed = λ t. refl; steps = λ f. refl }
   leave_leads Inside Reader Downgraded w h = record { before = (omega arith, omega arith, refl); deed = λ t. refl; steps = λ f. refl }
   leave_leads Inside Writer Downgraded w h = record { before = (refl, refl); deed = λ t. refl; steps = λ f. refl }
+  leave_leads Inside o s w h = record { before = refl; deed = λ t. refl; steps = λ f. refl }
   leave_leads p o s w h = cc
 
 -- what the call of a line makes of the account before it: begin starts it anew, upgrade and downgrade count
@@ -86,16 +82,12 @@ begin_account Writer a = refl
 
 downgrade_account : (s : Standing) (a : Account) → one_more_downgrade a ≡ account_of_call (downgrade_line s) a
 downgrade_account Normal a = refl
-downgrade_account Upgraded a = refl
-downgrade_account Downgraded a = refl
+downgrade_account s a = refl
 
 leave_account : (o : Role) (s : Standing) (a : Account) → a ≡ account_of_call (leave_line o s) a
 leave_account Reader Normal a = refl
 leave_account Writer Normal a = refl
-leave_account Reader Upgraded a = refl
-leave_account Writer Upgraded a = refl
-leave_account Reader Downgraded a = refl
-leave_account Writer Downgraded a = refl
+leave_account o s a = refl
 
 -- a line that is some task's next one is no first line of a call
 later_account : (l : Line) (a : Account) → rank_of_line l ≤ 39 → a ≡ account_of_call l a
