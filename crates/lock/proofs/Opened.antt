@@ -1,8 +1,10 @@
 -- A lock that was opened.
-use Rattle.std.proofs.Common.{ltb, ◌&&◌, ◌≡◌, ℕ, zero, suc, ◌+◌, ◌<◌, ◌≤◌, Bool, true, List, [], ◌∷◌, ◌++◌, map, length, get_or, take, set, replicate, None, Ok, Result, Option, sym, refl, ap, ◌∙◌, subst, arith}
+use Rattle.std.proofs.Common.{ltb, ◌&&◌, ◌≡◌, ℕ, ◌+◌, ◌<◌, ◌≤◌, true, List, [], ◌∷◌, ◌++◌, map, length, get_or, take, set, replicate, None, Ok, Result, Option, sym, refl, ap, ◌∙◌, subst, arith}
 use Rattle.std.proofs.lemmas.List.{length-set, take_more_set, map_more, take_all}
 use Rattle.std.specs.List.{list_all}
-use Rattle.std.proofs.lemmas.Bool.{and_from, lt-ltb}
+use Rattle.std.proofs.lemmas.Bool.{lt-ltb}
+use Rattle.std.proofs.lemmas.List.Elements.{All-replicate}
+use Rattle.std.proofs.lemmas.List.Sums.{list_all-from_AllPass}
 use Rattle.memory.specs.declared.operation.Operation.{Operation}
 use Rattle.memory.specs.Calls.{Doing, Kept}
 use Rattle.memory.specs.Operations.{after}
@@ -26,13 +28,9 @@ pub record Enlisted (all : List Record) (roles : List ℕ) (i : ℕ) : Type 0 wh
   pub ordered : list_all in_order all ≡ true
   pub first : take i all ≡ map enlisted (take i roles)
 
-pass_replicate : (p : Record → Bool) (n : ℕ) (r : Record) → p r ≡ true → list_all p (replicate n r) ≡ true
-pass_replicate p zero r h = refl
-pass_replicate p (suc n) r h = and_from (p r) (list_all p (replicate n r)) h (pass_replicate p n r h)
-
 -- records of which none ever began
 pub fresh_all : (n : ℕ) (r : Record) → r ≡ fresh Reader → list_all in_order (replicate n r) ≡ true
-fresh_all n r new = pass_replicate in_order n r (ap in_order new ∙ fresh_in_order Reader)
+fresh_all n r new = list_all-from_AllPass in_order (replicate n r) (All-replicate (λ x. in_order x ≡ true) n r (ap in_order new ∙ fresh_in_order Reader))
 
 pub enlist_more : (all : List Record) (roles : List ℕ) (i : ℕ) (r : Record) → Enlisted all roles i → i < length roles → length roles ≤ 64 → r ≡ enlisted (get_or roles i 0) → Enlisted (set all i r) roles (i + 1)
 enlist_more all roles i r e less few new = let kept = ap in_order new ∙ fresh_in_order (role_of (get_or roles i 0)) in record {

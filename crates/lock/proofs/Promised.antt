@@ -1,6 +1,8 @@
 -- A lock just opened keeps every promise.
-use Rattle.std.proofs.Common.{◌≡◌, ℕ, zero, suc, ◌-◌, ◌<◌, ◌≤◌, ◌≢◌, ◌⊎◌, ◌↔◌, true, not, eqb, leb, List, [], ◌∷◌, length, get_or, map, ltb, IsOk, Some, None, Option, Result, sym, refl, ap, ◌∙◌, subst, inl, inr, arith}
-use Rattle.std.proofs.lemmas.Bool.{and_from, and_parts, eqb-true, false≢true, le-leb, leb-true}
+use Rattle.std.proofs.Common.{◌≡◌, ℕ, ◌-◌, ◌<◌, ◌≤◌, ◌≢◌, ◌⊎◌, ◌↔◌, true, not, eqb, leb, List, [], ◌∷◌, length, get_or, map, ltb, IsOk, Some, None, Option, Result, sym, refl, ap, ◌∙◌, subst, inl, inr, arith}
+use Rattle.std.proofs.lemmas.Bool.{eqb-true, false≢true, le-leb, leb-true}
+use Rattle.std.proofs.lemmas.List.Elements.{All-from_get_or, All-get_or}
+use Rattle.std.proofs.lemmas.List.Sums.{AllPass-from_list_all, list_all-from_AllPass}
 use Rattle.std.proofs.Math.ListN.{get_or-map, length-map}
 use Rattle.memory.specs.Calls.{Doing}
 use Rattle.lines.specs.declared.place.Role.{Role}
@@ -43,6 +45,7 @@ use Rattle.lock.proofs.Histories.{RowOf, call_left, counts, granted, may_read, p
 use Rattle.lock.proofs.Holds.{Holds, at}
 use Rattle.lock.proofs.Judged.{Lawful, pass_there}
 use Rattle.lock.proofs.Measured.{reads}
+use Rattle.lock.proofs.Opened.{each_role}
 use Rattle.lock.proofs.RowRuns.{of_row, read_told, row_still}
 use Rattle.lock.proofs.Recorded.{told}
 use Rattle.lock.proofs.Runs.{Able, call_kept, excluded, no_right_beside, run_able, section_with_right}
@@ -199,16 +202,13 @@ module _ (limit ceiling : ℕ) (s z : State) (roles : List ℕ) (none : open_ref
 
 -- each byte is a role's
 role_bytes : (roles : List ℕ) → are_roles roles ≡ true → (i : ℕ) → i < length roles → (get_or roles i 0 ≡ 82) ⊎ (get_or roles i 0 ≡ 87)
-role_bytes [] h i l = absurd (omega arith)
-role_bytes (b ∷ bs) h zero l = role_byte b (and_parts (is_role b) (are_roles bs) h).0
+role_bytes roles h i l = role_byte _ (All-get_or (λ b. is_role b ≡ true) roles i 0 l (AllPass-from_list_all is_role roles (each_role roles ∙ h)))
   where
     role_byte : (b : ℕ) → is_role b ≡ true → (b ≡ 82) ⊎ (b ≡ 87)
     role_byte b h = grind arith
-role_bytes (b ∷ bs) h (suc i) l = role_bytes bs (and_parts (is_role b) (are_roles bs) h).1 i (omega arith)
 
 all_roles : (roles : List ℕ) → ((i : ℕ) → i < length roles → (get_or roles i 0 ≡ 82) ⊎ (get_or roles i 0 ≡ 87)) → are_roles roles ≡ true
-all_roles [] h = refl
-all_roles (b ∷ bs) h = and_from (is_role b) (are_roles bs) (a_role b (h 0 (omega arith))) (all_roles bs (λ i l. h (suc i) (omega arith)))
+all_roles roles h = sym (each_role roles) ∙ list_all-from_AllPass is_role roles (All-from_get_or (λ b. is_role b ≡ true) roles 0 (λ i l. a_role _ (h i l)))
   where
     a_role : (b : ℕ) → (b ≡ 82) ⊎ (b ≡ 87) → is_role b ≡ true
     a_role b (inl e) = ap is_role e
