@@ -1,21 +1,22 @@
 -- What the questions of a call ask is what it needs: where none is answered no it has that, and where it has that none is.
 use Rattle.std.proofs.Common.{◌≡◌, ℕ, ◌+◌, ◌<◌, ◌≤◌, ◌⊎◌, true, eqb, leb, ltb, length, get_or, Some, None, Option, sym, refl, ap, ◌∙◌, subst, inl, inr, arith}
-use Rattle.std.proofs.lemmas.Bool.{and_from, and_parts, cases_Bool, eq-eqb, eqb-true, false≢true, le-leb, leb-true, lt-ltb, ltb-true}
+use Rattle.std.proofs.lemmas.Bool.{and_from, and_parts, eq-eqb, eqb-true, false≢true, le-leb, leb-true, lt-ltb, ltb-true}
 use Rattle.memory.specs.Calls.{Doing}
 use Rattle.lines.specs.declared.place.Place.{Place}
 use Rattle.lines.specs.declared.place.Place.TheVariants.{Rest, Next}
 use Rattle.lines.specs.declared.place.Right.{Right}
 use Rattle.lines.specs.declared.place.Right.TheVariants.{Reading, Writing}
 use Rattle.lines.specs.Rights.{right_of, same_right}
-use Rattle.calls.specs.declared.refusal.Refusal.TheVariants.{Finished, NoPass, NoRow, NoTask, OtherLock, OtherRight, Shut, Stored, Thickness, Upgrades}
+use Rattle.calls.specs.declared.refusal.Refusal.TheVariants.{Finished, NoPass, NoRow, NoTask, OtherLock, OtherRight, Shut, Thickness, Upgrades}
 use Rattle.calls.specs.Questions.{ask, advance_refusal_at, begin_refusal_at, is_out, out_for, pass_refusal, row_refusal, take_refusal, task_refusal, thickness_refusal}
 use Rattle.calls.specs.States.{State, record_of}
-use Rattle.calls.specs.Steps.{Answer, Call, Verdict, advance, at_once, begin, downgrade, gives, judge, lay_back, leave, line, no, put, read, refuse, row_answer, take, upgrade}
+use Rattle.calls.specs.Steps.{Answer, Call, Verdict, advance, at_once, begin, downgrade, gives, judge, lay_back, leave, line, put, read, refuse, row_answer, take, upgrade}
 use Rattle.calls.proofs.Obeyed.{yes}
 use Rattle.lock.specs.Charges.{unfinished}
 use Rattle.lock.specs.Needs.{RefusedAsDamaged, IsRefused, Needs, OnLine}
 use Rattle.lock.specs.Runs.{task_of, was_obeyed}
 use Rattle.lock.proofs.Asked.{Passed, outcome, passed}
+use Rattle.lock.proofs.Measured.{row_says}
 use Rattle.lock.proofs.Recorded.{told}
 use Rattle.lock.proofs.Runs.{Obeyed}
 
@@ -93,23 +94,11 @@ clear_row row rows h = ap (λ b. ask b NoRow None) (lt-ltb row rows h)
 pub clear_thickness : (n : ℕ) → 1 ≤ n → n ≤ 1000000 → thickness_refusal n ≡ None
 clear_thickness n low high = ap (λ b. ask b Thickness (ask (leb n 1000000) Thickness None)) (le-leb 1 n low) ∙ ap (λ b. ask b Thickness None) (le-leb n 1000000 high)
 
--- a row answers a thickness or absence, or that it is damaged
 pub row_clear : (n : ℕ) → (was_obeyed (row_answer n) ≡ true) ⊎ IsRefused (row_answer n) 32
-row_clear n =
-    elim (cases_Bool (eqb n 0)) [
-      | inl none ↦ inl (rw none refl)
-      | inr some ↦ elim (cases_Bool (leb n 1000000)) [ inl few ↦ inl (rw (some, few) refl) | inr much ↦ inr (rw (some, much) refl) ]
-    ]
+row_clear n = elim (row_says n) [ inl p ↦ inl (ap was_obeyed p.1) | inr e ↦ inr (subst (λ a. IsRefused a 32) (sym e) refl) ]
 
 pub told_row : (n : ℕ) → was_obeyed (row_answer n) ≡ true → (o : Option ℕ) × (row_answer n ≡ gives o)
-told_row n h =
-    elim (cases_Bool (eqb n 0)) [
-      | inl none ↦ (None, rw none refl)
-      | inr some ↦ elim (cases_Bool (leb n 1000000)) [
-        | inl few ↦ (Some n, rw (some, few) refl)
-        | inr much ↦ let k : row_answer n ≡ no Stored = rw (some, much) refl in absurd (false≢true (sym (ap was_obeyed k) ∙ h))
-      ]
-    ]
+told_row n h = elim (row_says n) [ inl p ↦ p | inr e ↦ absurd (false≢true (sym (ap was_obeyed e) ∙ h)) ]
 
 -- a verdict that is no refusal, but for a damaged row
 abbrev pub Clear : Call → Verdict → Type 0

@@ -1,6 +1,5 @@
 -- What each call comes to on a lock whose facts hold: a refusal of its own, a line that is due, or an answer that leaves all tasks where they are.
-use Rattle.std.proofs.Common.{◌≡◌, ℕ, ◌-◌, eqb, leb, get_or, Some, None, Option, refl, inl, inr, lit≤}
-use Rattle.std.proofs.lemmas.Bool.{cases_Bool}
+use Rattle.std.proofs.Common.{sym, subst, ◌≡◌, ℕ, ◌-◌, get_or, Some, None, Option, refl, inl, inr, lit≤}
 use Rattle.lines.specs.declared.place.Right.{Right}
 use Rattle.lines.specs.declared.place.Right.TheVariants.{Reading, Writing}
 use Rattle.calls.specs.declared.record.Record.{Record}
@@ -11,6 +10,7 @@ use Rattle.calls.proofs.Sound.{back_in_order, out_in_order}
 use Rattle.lock.specs.Promises.{IsOfLock, IsOwn}
 use Rattle.lock.proofs.Holds.{at}
 use Rattle.lock.proofs.Judged.{Due, Lawful, due_advance, due_begin, due_downgrade, due_leave, due_upgrade, pass_there}
+use Rattle.lock.proofs.Measured.{row_says}
 use Rattle.lock.proofs.Lasting.{SameTracks, each_same, pass_lawful, track_same}
 use Rattle.lock.proofs.Asked.{Passed, judged, outcome}
 
@@ -29,11 +29,7 @@ Meant s (line t r) = Due s t r
 Meant s (at_once a z) = Quiet s a z
 
 own_row_answer : (n : ℕ) → IsOwn (row_answer n)
-own_row_answer n =
-    elim (cases_Bool (eqb n 0)) [
-      | inl none ↦ rw none tt
-      | inr some ↦ elim (cases_Bool (leb n 1000000)) [ inl few ↦ rw (some, few) tt | inr much ↦ rw (some, much) (lit≤ tt) ]
-    ]
+own_row_answer n = elim (row_says n) [ inl p ↦ subst IsOwn (sym p.1) tt | inr e ↦ subst IsOwn (sym e) (lit≤ tt) ]
 
 -- a pass goes out or comes back
 quiet_pass : (s : State) (t : ℕ) (o : Option Right) (a : Answer) → IsOwn a → Lawful (with_record s t (with_out (record_of s t) o)) → Quiet s a (with_record s t (with_out (record_of s t) o))

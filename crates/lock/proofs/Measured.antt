@@ -1,10 +1,18 @@
 -- What a read answers by the number in its row.
-use Rattle.std.proofs.Common.{◌≡◌, ℕ, ◌<◌, ◌≤◌, false, eqb, leb, Some, None, sym, refl, ◌∙◌, subst, inl, inr, arith}
+use Rattle.std.proofs.Common.{◌⊎◌, Option, ◌≡◌, ℕ, ◌<◌, ◌≤◌, false, eqb, leb, Some, None, sym, refl, ◌∙◌, subst, inl, inr, arith}
 use Rattle.std.proofs.lemmas.Bool.{cases_Bool, eqb-true, leb-true}
 use Rattle.calls.specs.declared.refusal.Refusal.TheVariants.{Stored}
 use Rattle.calls.specs.Steps.{Answer, gives, no, row_answer}
 use Rattle.lock.specs.Needs.{IsRefused}
 use Rattle.lock.specs.Rows.{Reads}
+
+-- a row answers a thickness or absence, or that it is damaged
+pub row_says : (n : ℕ) → ((o : Option ℕ) × (row_answer n ≡ gives o)) ⊎ (row_answer n ≡ no Stored)
+row_says n =
+    elim (cases_Bool (eqb n 0)) [
+      | inl none ↦ inl (None, rw none refl)
+      | inr some ↦ elim (cases_Bool (leb n 1000000)) [ inl few ↦ inl (Some n, rw (some, few) refl) | inr much ↦ inr (rw (some, much) refl) ]
+    ]
 
 at_zero : (a : Answer) (n : ℕ) → a ≡ gives None → n ≡ 0 → Reads n a
 at_zero a n e z =
