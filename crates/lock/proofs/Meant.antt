@@ -1,5 +1,5 @@
 -- What each call comes to on a lock whose facts hold: a refusal of its own, a line that is due, or an answer that leaves all tasks where they are.
-use Rattle.std.proofs.Common.{sym, subst, ◌≡◌, ℕ, ◌-◌, get_or, Some, None, Option, refl, inl, inr, lit≤}
+use Rattle.std.proofs.Common.{◌≡◌, ℕ, ◌-◌, get_or, Some, None, Option, sym, refl, subst, inl, inr, lit≤}
 use Rattle.lines.specs.declared.place.Right.{Right}
 use Rattle.lines.specs.declared.place.Right.TheVariants.{Reading, Writing}
 use Rattle.calls.specs.declared.record.Record.{Record}

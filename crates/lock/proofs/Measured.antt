@@ -1,5 +1,5 @@
 -- What a read answers by the number in its row.
-use Rattle.std.proofs.Common.{◌⊎◌, Option, ◌≡◌, ℕ, ◌<◌, ◌≤◌, false, eqb, leb, Some, None, sym, refl, ◌∙◌, subst, inl, inr, arith}
+use Rattle.std.proofs.Common.{◌≡◌, ℕ, ◌<◌, ◌≤◌, ◌⊎◌, false, eqb, leb, Some, None, Option, sym, refl, ◌∙◌, subst, inl, inr, arith}
 use Rattle.std.proofs.lemmas.Bool.{cases_Bool, eqb-true, leb-true}
 use Rattle.calls.specs.declared.refusal.Refusal.TheVariants.{Stored}
 use Rattle.calls.specs.Steps.{Answer, gives, no, row_answer}
