@@ -38,6 +38,7 @@ outcome (leave w k t) s = line t (leaving (record_of s t))
 outcome (read w k t row) s = at_once (row_answer (get_or s.table row 0)) s
 outcome (put k t row n) s = at_once done (with_row s row n)
 
+-- the questions are asked in turn, before v
 abbrev pub asked_all : List (Option Refusal) → Verdict → Verdict
 asked_all [] v = v
 asked_all (o ∷ os) v = asked o (asked_all os v)
@@ -48,6 +49,7 @@ is_asked c s = refl
 
 -- Every refusal is of the lock itself, and none has the number 32, which is of a row.
 
+-- so it is with this refusal
 abbrev pub OfQuestion : Refusal → Type 0
 OfQuestion e = IsOfLock e × (refusal_number e ≤ 31)
 

@@ -1,4 +1,4 @@
--- What the calls made say of a task is what its record says: its pass, its changes, its attempts and what they cost.
+-- What the calls made say of a task is what its record says: its pass, its changes, its attempts and what they cost; and what they put into rows stands there.
 use Rattle.std.proofs.Common.{◌≡◌, ℕ, ◌+◌, ◌-◌, ◌<◌, ◌≤◌, ◌≢◌, ◌⊎◌, true, false, cond, min, eqb, ltb, List, [], ◌∷◌, length, get_or, set, Some, None, sym, refl, ap, ◌∙◌, subst, inl, inr, arith}
 use Rattle.std.proofs.lemmas.Bool.{cases_eq, eq-eqb, false≢true, ltb-true, ne_eqb}
 use Rattle.std.proofs.lemmas.List.{get_or-set_same, get_or-set_other, length-set}
@@ -38,6 +38,7 @@ use Rattle.lock.proofs.Recorded.{told, says_of, arrived_told, cond_same, quiet_f
 
 -- What a verdict says of the call that it is of.
 
+-- the number in a row
 abbrev pub RowOf : ℕ → State → ℕ
 RowOf row s = get_or s.table row 0
 
@@ -97,6 +98,7 @@ ends_away r q h e k f share = moves r.track.place (settled q f share).track.plac
 held_away : (s : State) (w : Right) (t : ℕ) → Holding s w t → Away (record_of s t).track.place
 held_away s w t p = let k = (record_of s t).track in right_away k.place k.role k.standing w p.right
 
+-- a put leaves its number in its row, and in any other what stood there
 row_put : (s : State) (k t r n row : ℕ) → r < length s.table → get_or (set s.table r n) row 0 ≡ left_in row (put k t r n) done (RowOf row s)
 row_put s k t r n row within =
     elim (cases_eq r row) [
@@ -104,6 +106,7 @@ row_put s k t r n row within =
       | inr other ↦ rw (ne_eqb r row other) (get_or-set_other s.table r row n 0 (λ e. other (sym e)))
     ]
 
+-- a refused call leaves in each row what stood there
 refused_leaves : (row : ℕ) (c : Call) (e : Refusal) (v : ℕ) → left_in row c (no e) v ≡ v
 refused_leaves row (put k t r n) e v = refl
 refused_leaves row c e v = refl

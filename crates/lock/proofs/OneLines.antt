@@ -1,4 +1,4 @@
--- An obeyed call does the one line that its task's place and standing say, and any other call does none.
+-- The line that is due is the one that the call does by its task's place and standing, and what it leaves.
 use Rattle.std.proofs.Common.{◌≡◌, ℕ, ◌-◌, ◌<◌, ◌≤◌, length, Some, sym, ap, ◌∙◌, arith}
 use Rattle.std.proofs.lemmas.List.{get_or-set_same, get_or-set_other}
 use Rattle.lines.specs.declared.place.Line.{Line}

@@ -1,4 +1,4 @@
--- What runs leave in the rows: a row holds the number last put into it, and stands still while a task keeps its reading right.
+-- What a read tells of its row, and that each row stands still while a task keeps its reading right.
 use Rattle.std.proofs.Common.{◌≡◌, ℕ, ◌≤◌, true, List, [], ◌∷◌, Some, Option, sym, refl, ap, ◌∙◌, subst, inl, inr, arith}
 use Rattle.std.proofs.lemmas.Bool.{cases_Bool, cases_eq, false≢true}
 use Rattle.memory.specs.Calls.{Doing}
