@@ -1,7 +1,6 @@
 -- The cost bound: each task's account is backed by units, of which a place allows no more than Costs says.
-use Rattle.std.proofs.Common.{◌≡◌, ℕ, zero, suc, ◌+◌, ◌-◌, ◌*◌, ◌<◌, ◌≤◌, cond, eqb, ◌≢◌, List, [], ◌∷◌, length, get_or, map, set, IfOk, Some, None, Option, Result, sym, refl, ap, ◌∙◌, subst, inl, inr, arith}
-use Rattle.std.proofs.lemmas.Bool.{cases_eq, eq-eqb, ne_eqb}
-use Rattle.std.proofs.lemmas.List.{get_or-set_same, get_or-set_other}
+use Rattle.std.proofs.Common.{◌≡◌, ℕ, zero, suc, ◌+◌, ◌-◌, ◌*◌, ◌<◌, ◌≤◌, cond, eqb, ◌≢◌, List, [], ◌∷◌, length, get_or, map, set, IfOk, Some, None, Option, Result, sym, refl, ap, ◌∙◌, subst, arith}
+use Rattle.std.proofs.lemmas.Bool.{eq-eqb, ne_eqb}
 use Rattle.memory.specs.declared.operation.Operation.{Operation}
 use Rattle.memory.specs.Calls.{Doing}
 use Rattle.memory.specs.Cells.{zeros}
@@ -10,9 +9,8 @@ use Rattle.lines.specs.declared.deed.Deed.TheVariants.{Touch}
 use Rattle.lines.specs.declared.place.Line.{Line}
 use Rattle.lines.specs.declared.place.Line.TheVariants.{L0p1, L16, L25p1, L27p1, Down28p1}
 use Rattle.lines.specs.declared.place.Place.{Place}
-use Rattle.lines.specs.declared.place.Place.TheVariants.{Rest, Inside, Next}
+use Rattle.lines.specs.declared.place.Place.TheVariants.{Rest}
 use Rattle.lines.specs.declared.place.Role.{Role}
-use Rattle.lines.specs.declared.place.Role.TheVariants.{Reader}
 use Rattle.lines.specs.declared.track.Track.{Track}
 use Rattle.lines.specs.Deeds.{cells_after, finds, waiting_after}
 use Rattle.lines.specs.Lines.{at_rest, deed_of, next_deed, settle}
@@ -21,25 +19,24 @@ use Rattle.calls.specs.declared.record.Record.{Record}
 use Rattle.calls.specs.declared.refusal.Refusal.{Refusal}
 use Rattle.calls.specs.Accounts.{charged}
 use Rattle.calls.specs.Opening.{Opens, Wrote, enlisted, open_refusal, opening_writes}
-use Rattle.calls.specs.Records.{arrived, fresh, settled}
+use Rattle.calls.specs.Records.{arrived, settled}
 use Rattle.calls.specs.States.{State, record_of}
-use Rattle.calls.specs.Steps.{Answer, Call, Calls, Carried, LineShares, Verdict, after_deed, at_once, judge, line, lined, refuse}
+use Rattle.calls.specs.Steps.{Answer, Call, Calls, Verdict, after_deed, at_once, judge, line, refuse}
 use Rattle.lock.specs.Promises.{CostBound}
 use Rattle.lock.specs.History.{History, history}
 use Rattle.lock.specs.Runs.{Made, RunWhile}
-use Rattle.lock.proofs.Allowed.{allowed}
 use Rattle.lock.specs.Counted.{masks_after, unit_share}
 use Rattle.lock.proofs.Copies.{ChargedByUnits, deed_charged, flag, length-masks_after, opened_masks, purse_other, purse_own, touches_known, unit_share-charge}
 use Rattle.lock.proofs.Costs.{Paid, Units, account_before, at_most_20, charge, other_copies, others_kept, own_copies, payer_kept, purse}
 use Rattle.lock.proofs.Costs.{charged as charged_units}
 use Rattle.lock.proofs.Facts.{Before, Cells, Task, seen, seen_cells}
-use Rattle.lock.proofs.Holds.{Holds, at, line_moves, met, seen_at}
+use Rattle.lock.proofs.Holds.{Holds, at, each_other, line_moves, met, seen_at}
 use Rattle.lock.proofs.Judged.{Due, Lawful, account_of_call}
 use Rattle.lock.proofs.Meant.{Meant, Quiet, meant}
 use Rattle.lock.proofs.Opened.{seven_of}
 use Rattle.lock.proofs.Histories.{told_by_run}
 use Rattle.lock.proofs.Promised.{able, first_record, new_records, no_history}
-use Rattle.lock.proofs.Runs.{Able, call_able}
+use Rattle.lock.proofs.Runs.{Able, Obeyed, call_able, call_kept}
 
 -- An account is backed by units, at the ceiling each.
 
@@ -65,8 +62,7 @@ backed_charge top share n a b less h = record { cost = omega (arith, times_sum t
 
 backed_arrived : (p : Place) (top : ℕ) (a : Account) (b : Units) → Backed top a b → Backed top (arrived p a) b
 backed_arrived Rest top a b h = record { cost = h.cost; u = h.u; g = h.g }
-backed_arrived Inside top a b h = h
-backed_arrived (Next l) top a b h = h
+backed_arrived p top a b h = h
 
 times_less : (k a b : ℕ) → a ≤ b → k * a ≤ k * b
 times_less zero a b h = omega arith
@@ -100,28 +96,20 @@ module _ (l : Line) (C D G X P U V : ℕ) (ws : List ℕ) (rs : List Record) (i 
   PaidBy a b j = Paid (seen_cells (cells_after deed cs) (waiting_after deed (suc i) ws)) a (purse b (flag (masks_after deed (suc i) masks) (suc j)))
 
   line_paid : Before l (seen i k) → Holds cs ws rs → Paying cs ws rs masks units → (r : Record) → r.track ≡ found → Paying (cells_after deed cs) (waiting_after deed (suc i) ws) (set rs i r) (masks_after deed (suc i) masks) after
-  line_paid b g p r is j =
+  line_paid b g p r is =
       let known = touches_known l (suc i) k in
       let low : 1 ≤ suc i = omega arith in
       let own = charged_units (account_before l (units i)) (charge deed (flag masks (suc i))) in
-      elim (cases_eq j i) [
-        | inl e ↦
-            let paid : Paid (seen_cells (cells_after deed cs) (waiting_after deed (suc i) ws)) (seen i found) (purse own (own_copies deed (flag masks (suc i)))) =
-            payer_kept C D G X P U V i k.prev k.curr k.d k.x k.place k.standing (units i) (flag masks (suc i)) l k.role ws b (g.one i) (p i) in
-            let with_copies : PaidBy (seen i found) own i = subst (λ m. Paid (seen_cells (cells_after deed cs) (waiting_after deed (suc i) ws)) (seen i found) m) (sym (purse_own deed (suc i) masks own seven known low)) paid in
-            let with_share : PaidBy (seen i found) (charged_units (account_before l (units i)) (unit_share deed (suc i) masks)) i = subst (λ n. PaidBy (seen i found) (charged_units (account_before l (units i)) n) i) (sym (unit_share-charge deed (suc i) masks)) with_copies in
-            let with_units : PaidBy (seen i found) (after i) i = subst (λ c. PaidBy (seen i found) (cond c (charged_units (account_before l (units i)) (unit_share deed (suc i) masks)) (units i)) i) (sym (eq-eqb i i refl)) with_share in
-            let with_record : PaidBy (seen_at (set rs i r) i) (after i) i = subst (λ x. PaidBy (seen i x) (after i) i) (sym (ap (λ (x : Record). x.track) (get_or-set_same rs i r (fresh Reader) h) ∙ is)) with_units in
-            subst (λ n. PaidBy (seen_at (set rs i r) n) (after n) n) (sym e) with_record
-        | inr n ↦
-            let apart : suc j ≢ suc i = omega arith in
-            let m = met l C D G X P U V ws rs i h g (line_moves l C D G X P U V ws rs i h b g) r is j n in
-            let paid : Paid (seen_cells (cells_after deed cs) (waiting_after deed (suc i) ws)) (seen_at rs j) (purse (units j) (other_copies deed (flag masks (suc j)))) =
-            others_kept C D G X P U V i k.prev k.curr k.d k.x k.place k.standing (units i) (flag masks (suc i)) l k.role ws b (g.one i) (seen_at rs j) (units j) (flag masks (suc j)) m (p j) in
-            let with_copies : PaidBy (seen_at rs j) (units j) j = subst (λ m. Paid (seen_cells (cells_after deed cs) (waiting_after deed (suc i) ws)) (seen_at rs j) m) (sym (purse_other deed (suc i) (suc j) masks (units j) seven known low (omega arith) apart)) paid in
-            let with_units : PaidBy (seen_at rs j) (after j) j = subst (λ c. PaidBy (seen_at rs j) (cond c (charged_units (account_before l (units i)) (unit_share deed (suc i) masks)) (units j)) j) (sym (ne_eqb j i n)) with_copies in
-            subst (λ x. PaidBy (seen j x) (after j) j) (sym (ap (λ (x : Record). x.track) (get_or-set_other rs i j r (fresh Reader) n))) with_units
-      ]
+      let paid : Paid (seen_cells (cells_after deed cs) (waiting_after deed (suc i) ws)) (seen i found) (purse own (own_copies deed (flag masks (suc i)))) =
+      payer_kept C D G X P U V i k.prev k.curr k.d k.x k.place k.standing (units i) (flag masks (suc i)) l k.role ws b (g.one i) (p i) in
+      let with_copies : PaidBy (seen i found) own i = subst (λ m. Paid (seen_cells (cells_after deed cs) (waiting_after deed (suc i) ws)) (seen i found) m) (sym (purse_own deed (suc i) masks own seven known low)) paid in
+      each_other (λ j x. PaidBy (seen j x.track) (after j) j) rs i r h (rw (is, eq-eqb i i refl, unit_share-charge deed (suc i) masks) with_copies) (λ j n.
+      let apart : suc j ≢ suc i = omega arith in
+      let m = met l C D G X P U V ws rs i h g (line_moves l C D G X P U V ws rs i h b g) r is j n in
+      let paid : Paid (seen_cells (cells_after deed cs) (waiting_after deed (suc i) ws)) (seen_at rs j) (purse (units j) (other_copies deed (flag masks (suc j)))) =
+      others_kept C D G X P U V i k.prev k.curr k.d k.x k.place k.standing (units i) (flag masks (suc i)) l k.role ws b (g.one i) (seen_at rs j) (units j) (flag masks (suc j)) m (p j) in
+      let with_copies : PaidBy (seen_at rs j) (units j) j = subst (λ m. Paid (seen_cells (cells_after deed cs) (waiting_after deed (suc i) ws)) (seen_at rs j) m) (sym (purse_other deed (suc i) (suc j) masks (units j) seven known low (omega arith) apart)) paid in
+      rw (ne_eqb j i n) with_copies)
 
 pub record Costed (top : ℕ) (s : State) (masks : List ℕ) : Type 0 where
   pub seven : length masks ≡ 7
@@ -158,15 +146,11 @@ line_costed top s t r share masks masks' g d less left c =
   where
     line_backed : (top : ℕ) (rs : List Record) (i : ℕ) (r : Record) (share n : ℕ) (y : Record) (l : Line) (units : ℕ → Units) → i < length rs → r.account ≡ account_of_call l (at rs i).account → share ≤ top * n → y.account ≡ arrived y.track.place (charged r.account share) →
         ((j : ℕ) → Backed top (at rs j).account (units j)) → (j : ℕ) → Backed top (at (set rs i y) j).account (with_units units i (charged_units (account_before l (units i)) n) j)
-    line_backed top rs i r share n y l units h account less is backed j =
+    line_backed top rs i r share n y l units h account less is backed =
         let new = charged_units (account_before l (units i)) n in
-        elim (cases_eq j i) [
-          | inl e ↦
-              let before : Backed top r.account (account_before l (units i)) = subst (λ a. Backed top a (account_before l (units i))) (sym account) (backed_call top l (at rs i).account (units i) (backed i)) in
-              let after : Backed top y.account new = subst (λ a. Backed top a new) (sym is) (backed_arrived y.track.place top (charged r.account share) new (backed_charge top share n r.account (account_before l (units i)) less before)) in
-              rw (e, get_or-set_same rs i y (fresh Reader) h, eq-eqb i i refl) after
-          | inr other ↦ rw (get_or-set_other rs i j y (fresh Reader) other, ne_eqb j i other) (backed j)
-        ]
+        let before : Backed top r.account (account_before l (units i)) = subst (λ a. Backed top a (account_before l (units i))) (sym account) (backed_call top l (at rs i).account (units i) (backed i)) in
+        let after : Backed top y.account new = subst (λ a. Backed top a new) (sym is) (backed_arrived y.track.place top (charged r.account share) new (backed_charge top share n r.account (account_before l (units i)) less before)) in
+        each_other (λ j x. Backed top x.account (with_units units i new j)) rs i y h (rw (eq-eqb i i refl) after) (λ j other. rw (ne_eqb j i other) (backed j))
 
 -- a task that never began has paid nothing
 first_paid : (c : Cells) (j : ℕ) (o : Role) (copies : ℕ → ℕ) → Paid c (seen j (at_rest o)) (purse (record { cost = 0; u = 0; g = 0 }) copies)
@@ -189,25 +173,18 @@ module _ {M : Type 0} (does : Doing M) (masks : M → List ℕ) (top : M → ℕ
         backed = λ j. subst (λ x. Backed ceiling x (c.units j)) (sym (q.accounts j)) (c.backed j);
       }
 
-  same_memory : (s : State) (m n : M) → n ≡ m → Costed ceiling s (masks m) × (top m ≡ ceiling) → Costed ceiling s (masks n) × (top n ≡ ceiling)
-  same_memory s m n e c = subst (λ x. Costed ceiling s (masks x) × (top x ≡ ceiling)) (sym e) c
-
-  carried_costed : (v : Verdict) (s z : State) (m n : M) (a : Answer) → Meant s v → Bounded s m → Carried does limit v s m a z n → Costed ceiling z (masks n) × (top n ≡ ceiling)
-  carried_costed (refuse e) s z m n a h b (share, told, x, y) = subst (λ w. Costed ceiling w (masks n) × (top n ≡ ceiling)) (sym y) (same_memory s m n told.1 (b.costed, b.same))
-  carried_costed (line t r) s z m n a h b (share, told, x, y) =
+  obeyed_costed : (v : Verdict) (s z : State) (m n : M) (a : Answer) → Meant s v → Bounded s m → Obeyed does v s m a z n → Costed ceiling z (masks n) × (top n ≡ ceiling)
+  obeyed_costed (refuse e) s z m n a h b (x, y, same) = rw (y, same) (b.costed, b.same)
+  obeyed_costed (line t r) s z m n a h b (x, (share, y, shares)) =
       let d = next_deed t r.track in
-      let g = b.able in
-      let none = allowed limit s t r g.lawful g.fits g.two h in
-      let left : z ≡ after_deed t r d share s = subst (λ o. z ≡ (lined o t r d share s).1) none y in
-      let charges = deed_charged does masks top law d m n t share (subst (λ o. LineShares does o m t d share n) none told) in
+      let charges = deed_charged does masks top law d m n t share shares in
       let less : share ≤ ceiling * unit_share d t (masks m) = subst (λ k. share ≤ k * unit_share d t (masks m)) b.same charges.within in
-      subst (λ w. Costed ceiling w (masks n) × (top n ≡ ceiling)) (sym left) (line_costed ceiling s t r share (masks m) (masks n) g.lawful h less charges.left b.costed, charges.same_ceiling ∙ b.same)
-  carried_costed (at_once w q) s z m n a h b (share, told, x, y) =
-      subst (λ w. Costed ceiling w (masks n) × (top n ≡ ceiling)) (sym y) (same_memory q m n told.1 (same_costed s q (masks m) w h b.costed, b.same))
+      rw y (line_costed ceiling s t r share (masks m) (masks n) b.able.lawful h less charges.left b.costed, charges.same_ceiling ∙ b.same)
+  obeyed_costed (at_once w q) s z m n a h b (x, y, same) = rw (y, same) (same_costed s q (masks m) w h b.costed, b.same)
 
   pub call_bounded : (c : Call) (s z : State) (m n : M) (a : Answer) → Bounded s m → Calls does limit c s m a z n → Bounded z n
   call_bounded c s z m n a b h =
-      let k = carried_costed (judge c s) s z m n a (meant c s b.able.lawful) b h in
+      let k = obeyed_costed (judge c s) s z m n a (meant c s b.able.lawful) b (call_kept does limit c s z m n a b.able h).obeyed in
       record { able = call_able does limit c s z m n a b.able h; costed = k.0; same = k.1 }
 
   pub run_bounded : (P : State → Type 0) (es : List Made) (s z : State) (m n : M) → Bounded s m → RunWhile does limit P es s m z n → Bounded z n

@@ -1,13 +1,13 @@
 -- What an attempt has cost at most, by the place of its task, and that every line keeps it.
 --
 -- The cost is counted in units: an access that leaves the cache is one, and a memory charges at most its ceiling for it.
-use Rattle.std.proofs.Common.{◌≡◌, ℕ, zero, suc, ◌+◌, ◌-◌, ◌*◌, ◌≤◌, Bool, true, cond, ◌&&◌, eqb, leb, ◌≢◌, List, [], ◌∷◌, get_or, refl, inl, inr, arith}
-use Rattle.std.proofs.lemmas.Bool.{cases_eq, cases_lt, eq-eqb, ne_eqb, lt-ltb, le-ltb, leb-true, and_parts}
+use Rattle.std.proofs.Common.{◌≡◌, ℕ, suc, ◌+◌, ◌-◌, ◌*◌, ◌≤◌, cond, eqb, leb, ◌≢◌, List, [], ◌∷◌, get_or, refl, inl, inr, arith}
+use Rattle.std.proofs.lemmas.Bool.{cases_eq, cases_lt, eq-eqb, ne_eqb, lt-ltb, le-ltb, leb-true}
 use Rattle.memory.specs.declared.operation.Operation.TheVariants.{Read, Write, Add, Swap}
 use Rattle.lines.specs.declared.deed.Deed.{Deed}
-use Rattle.lines.specs.declared.deed.Deed.TheVariants.{Touch, Join, First, Quit, Nothing}
+use Rattle.lines.specs.declared.deed.Deed.TheVariants.{Touch}
 use Rattle.lines.specs.declared.place.Line.{Line}
-use Rattle.lines.specs.declared.place.Line.TheVariants.{L0p1, L0p2, L1, L2, L3, L4, L6, L7, L8, L9, L10, L11, L12, L13, L14, L15, L16, L16p1, L17, L18, L19, L20, L21, L22, L22p1, L22p2, L23, L25p1, L25p2, L25p3, L26p1, L27p1, L27p2, L27p3, L27p4, L27p5, Down28p1, Down28p2, L28p1, L28p2, L29p2, L32p1}
+use Rattle.lines.specs.declared.place.Line.TheVariants.{L0p1, L0p2, L6, L10, L11, L12, L13, L14, L16, L19, L21, L22, L22p1, L22p2, L25p1, L27p1, L27p3, L27p5, Down28p1}
 use Rattle.lines.specs.declared.place.Place.{Place}
 use Rattle.lines.specs.declared.place.Role.{Role}
 use Rattle.lines.specs.declared.place.Role.TheVariants.{Reader, Writer}
@@ -15,6 +15,7 @@ use Rattle.lines.specs.declared.place.Standing.{Standing}
 use Rattle.lines.specs.declared.track.Track.{Track}
 use Rattle.lines.specs.Deeds.{cells_after, finds, waiting_after}
 use Rattle.lines.specs.Lines.{deed_of, settle}
+use Rattle.lock.proofs.Kept.{pass_at}
 use Rattle.lock.proofs.Facts.{Before, Cells, Met, OneTask, Task, seen, seen_cells, writer}
 
 -- the cost of the current or latest attempt in units, with its upgrades and downgrades
@@ -48,20 +49,9 @@ abbrev pub at_most : (role rank : ℕ) → ℕ
 at_most role rank = get_or (get_or (reader_costs ∷ writer_costs ∷ []) role []) rank 0
 
 -- no place allows more than 20
-are_small : List ℕ → Bool
-are_small [] = true
-are_small (n ∷ ns) = leb n 20 && are_small ns
-
-get_or-are_small : (ns : List ℕ) (k : ℕ) → are_small ns ≡ true → get_or ns k 0 ≤ 20
-unfolding are_small
-get_or-are_small [] k e = omega arith
-get_or-are_small (n ∷ ns) zero e = leb-true n 20 (and_parts _ _ e).0
-get_or-are_small (n ∷ ns) (suc k) e = get_or-are_small ns k (and_parts (leb n 20) (are_small ns) e).1
-
 pub at_most_20 : (o : Role) (rank : ℕ) → at_most (writer o) rank ≤ 20
-unfolding are_small
-at_most_20 Reader rank = get_or-are_small reader_costs rank refl
-at_most_20 Writer rank = get_or-are_small writer_costs rank refl
+at_most_20 Reader rank = leb-true _ 20 (pass_at (λ n. leb n 20) reader_costs rank 0 refl refl)
+at_most_20 Writer rank = leb-true _ 20 (pass_at (λ n. leb n 20) writer_costs rank 0 refl refl)
 
 -- What a task has paid at most. On a wait line, while the wait holds, a task without a copy is below the bound of its place:
 -- its next read is paid and leaves a copy, with which it waits for nothing.
@@ -74,13 +64,8 @@ pub record Paid (c : Cells) (a : Task) (m : Purse) : Type 0 where
 -- the units that a deed costs a task with these copies
 abbrev pub charge : Deed → (ℕ → ℕ) → ℕ
 charge (Touch (Read c)) copies = 1 - copies c
-charge (Touch (Write c n)) copies = 1
-charge (Touch (Add c s)) copies = 1
-charge (Touch (Swap c e n)) copies = 1
-charge Join copies = 0
-charge First copies = 0
-charge Quit copies = 0
-charge Nothing copies = 0
+charge (Touch op) copies = 1
+charge d copies = 0
 
 -- the copies of the task after its own deed
 abbrev pub own_copies : Deed → (ℕ → ℕ) → ℕ → ℕ
@@ -88,21 +73,14 @@ own_copies (Touch (Read c)) copies k = cond (eqb c k) 1 (copies k)
 own_copies (Touch (Write c n)) copies k = cond (eqb c k) 0 (copies k)
 own_copies (Touch (Add c s)) copies k = cond (eqb c k) 0 (copies k)
 own_copies (Touch (Swap c e n)) copies k = cond (eqb c k) 0 (copies k)
-own_copies Join copies k = copies k
-own_copies First copies k = copies k
-own_copies Quit copies k = copies k
-own_copies Nothing copies k = copies k
+own_copies d copies k = copies k
 
 -- the copies of any other task after that deed
 abbrev pub other_copies : Deed → (ℕ → ℕ) → ℕ → ℕ
-other_copies (Touch (Read c)) copies k = copies k
 other_copies (Touch (Write c n)) copies k = cond (eqb c k) 0 (copies k)
 other_copies (Touch (Add c s)) copies k = cond (eqb c k) 0 (copies k)
 other_copies (Touch (Swap c e n)) copies k = cond (eqb c k) 0 (copies k)
-other_copies Join copies k = copies k
-other_copies First copies k = copies k
-other_copies Quit copies k = copies k
-other_copies Nothing copies k = copies k
+other_copies d copies k = copies k
 
 -- what the call that does the line makes of the account before it: begin resets it, upgrade and downgrade count
 abbrev pub account_before : Line → Units → Units
@@ -142,194 +120,24 @@ module _ (C D G X P U V i prev curr d x : ℕ) (p : Place) (s : Standing) (accou
       Before l (seen i (track o)) → OneTask (seen_cells cells ws) (seen i (track o)) → (b : Task) (theirs : Units) (held : ℕ → ℕ) → Met (seen_cells cells ws) (next l o ws) (seen i (track o)) b → Paid (seen_cells cells ws) b (purse theirs held) →
       Paid (next l o ws) b (purse theirs (other_copies (deed l o) held))
 
-  keeps_line_0p1 : (o : Role) (ws : List ℕ) → PayerKept L0p1 o ws
-  keeps_line_0p1 o ws f m k = grind arith
-
-  keeps_line_0p2 : (o : Role) (ws : List ℕ) → PayerKept L0p2 o ws
-  keeps_line_0p2 o [] f m k = grind arith
-  keeps_line_0p2 o (y ∷ ys) f m k = elim (cases_eq y (suc i)) [ inl same ↦ rw (eq-eqb y (suc i) same) (grind arith) | inr other ↦ rw (ne_eqb y (suc i) other) (grind arith) ]
-
-  keeps_line_1 : (o : Role) (ws : List ℕ) → PayerKept L1 o ws
-  keeps_line_1 o ws f m k = grind arith
-
-  keeps_line_2 : (o : Role) (ws : List ℕ) → PayerKept L2 o ws
-  keeps_line_2 o ws f m k = grind arith
-
-  keeps_line_3 : (o : Role) (ws : List ℕ) → PayerKept L3 o ws
-  keeps_line_3 o ws f m k = grind arith
-
-  keeps_line_4 : (o : Role) (ws : List ℕ) → PayerKept L4 o ws
-  keeps_line_4 o ws f m k = grind arith
-
-  keeps_line_6 : (o : Role) (ws : List ℕ) → PayerKept L6 o ws
-  keeps_line_6 o ws f m k = elim (cases_eq P 1) [ inl same ↦ rw (eq-eqb P 1 same) (grind arith) | inr other ↦ rw (ne_eqb P 1 other) (grind arith) ]
-
-  keeps_line_7 : (o : Role) (ws : List ℕ) → PayerKept L7 o ws
-  keeps_line_7 o ws f m k = grind arith
-
-  keeps_line_8 : (o : Role) (ws : List ℕ) → PayerKept L8 o ws
-  keeps_line_8 o ws f m k = grind arith
-
-  keeps_line_9 : (o : Role) (ws : List ℕ) → PayerKept L9 o ws
-  keeps_line_9 o ws f m k = grind arith
-
-  keeps_line_10 : (o : Role) (ws : List ℕ) → PayerKept L10 o ws
-  keeps_line_10 o ws f m k = elim (cases_eq x 0) [ inl same ↦ rw (eq-eqb x 0 same) (grind arith) | inr other ↦ rw (ne_eqb x 0 other) (grind arith) ]
-
-  keeps_line_11 : (o : Role) (ws : List ℕ) → PayerKept L11 o ws
-  keeps_line_11 o ws f m k = elim (cases_eq X x) [ inl same ↦ rw (eq-eqb X x same) (grind arith) | inr other ↦ rw (ne_eqb X x other) (grind arith) ]
-
-  keeps_line_12 : (o : Role) (ws : List ℕ) → PayerKept L12 o ws
-  keeps_line_12 o ws f m k = elim (cases_eq P 1) [ inl same ↦ rw (eq-eqb P 1 same) (grind arith) | inr other ↦ rw (ne_eqb P 1 other) (grind arith) ]
-
-  keeps_line_13 : (o : Role) (ws : List ℕ) → PayerKept L13 o ws
-  keeps_line_13 o ws f m k = elim (cases_eq C 0) [ inl same ↦ rw (eq-eqb C 0 same) (grind arith) | inr other ↦ rw (ne_eqb C 0 other) (grind arith) ]
-
-  keeps_line_14 : (o : Role) (ws : List ℕ) → PayerKept L14 o ws
-  keeps_line_14 o ws f m k = elim (cases_eq X (suc i)) [ inl same ↦ rw (eq-eqb X (suc i) same) (grind arith) | inr other ↦ rw (ne_eqb X (suc i) other) (grind arith) ]
-
-  keeps_line_15 : (o : Role) (ws : List ℕ) → PayerKept L15 o ws
-  keeps_line_15 o ws f m k = grind arith
-
-  keeps_line_16 : (o : Role) (ws : List ℕ) → PayerKept L16 o ws
-  keeps_line_16 o ws f m k = grind arith
-
-  keeps_line_16p1 : (o : Role) (ws : List ℕ) → PayerKept L16p1 o ws
-  keeps_line_16p1 o ws f m k = grind arith
-
-  keeps_line_17 : (o : Role) (ws : List ℕ) → PayerKept L17 o ws
-  keeps_line_17 o ws f m k = grind arith
-
-  keeps_line_18 : (o : Role) (ws : List ℕ) → PayerKept L18 o ws
-  keeps_line_18 o ws f m k = grind arith
-
-  keeps_line_19 : (o : Role) (ws : List ℕ) → PayerKept L19 o ws
-  keeps_line_19 o ws f m k = elim (cases_eq x 0) [ inl same ↦ rw (eq-eqb x 0 same) (grind arith) | inr other ↦ rw (ne_eqb x 0 other) (grind arith) ]
-
-  keeps_line_20 : (o : Role) (ws : List ℕ) → PayerKept L20 o ws
-  keeps_line_20 o ws f m k = grind arith
-
-  keeps_line_21 : (o : Role) (ws : List ℕ) → PayerKept L21 o ws
-  keeps_line_21 o ws f m k = elim (cases_eq X 0) [ inl same ↦ rw (eq-eqb X 0 same) (grind arith) | inr other ↦ rw (ne_eqb X 0 other) (grind arith) ]
-
-  keeps_line_22 : (o : Role) (ws : List ℕ) → PayerKept L22 o ws
-  keeps_line_22 o ws f m k = elim (cases_eq G d) [ inl same ↦ rw (eq-eqb G d same) (grind arith) | inr other ↦ rw (ne_eqb G d other) (grind arith) ]
-
-  keeps_line_22p1 : (o : Role) (ws : List ℕ) → PayerKept L22p1 o ws
-  keeps_line_22p1 o ws f m k = elim (cases_eq U 2) [ inl same ↦ rw (eq-eqb U 2 same) (grind arith) | inr other ↦ rw (ne_eqb U 2 other) (grind arith) ]
-
-  keeps_line_22p2 : (o : Role) (ws : List ℕ) → PayerKept L22p2 o ws
-  keeps_line_22p2 o ws f m k = elim (cases_eq V 0) [ inl same ↦ rw (eq-eqb V 0 same) (grind arith) | inr other ↦ rw (ne_eqb V 0 other) (grind arith) ]
-
-  keeps_line_23 : (o : Role) (ws : List ℕ) → PayerKept L23 o ws
-  keeps_line_23 o ws f m k = grind arith
-
-  keeps_line_25p1 : (o : Role) (ws : List ℕ) → PayerKept L25p1 o ws
-  keeps_line_25p1 o ws f m k = grind arith
-
-  keeps_line_25p2 : (o : Role) (ws : List ℕ) → PayerKept L25p2 o ws
-  keeps_line_25p2 o ws f m k = grind arith
-
-  keeps_line_25p3 : (o : Role) (ws : List ℕ) → PayerKept L25p3 o ws
-  keeps_line_25p3 o ws f m k = grind arith
-
-  keeps_line_26p1 : (o : Role) (ws : List ℕ) → PayerKept L26p1 o ws
-  keeps_line_26p1 o ws f m k = grind arith
-
-  keeps_line_27p1 : (o : Role) (ws : List ℕ) → PayerKept L27p1 o ws
-  keeps_line_27p1 o ws f m k = elim (cases_lt 1 C) [ inl more ↦ rw (lt-ltb 1 C more) (grind arith) | inr few ↦ rw (le-ltb 1 C few) (grind arith) ]
-
-  keeps_line_27p2 : (o : Role) (ws : List ℕ) → PayerKept L27p2 o ws
-  keeps_line_27p2 o ws f m k = grind arith
-
-  keeps_line_27p3 : (o : Role) (ws : List ℕ) → PayerKept L27p3 o ws
-  keeps_line_27p3 o ws f m k = elim (cases_lt 1 C) [ inl more ↦ rw (lt-ltb 1 C more) (grind arith) | inr few ↦ rw (le-ltb 1 C few) (grind arith) ]
-
-  keeps_line_27p4 : (o : Role) (ws : List ℕ) → PayerKept L27p4 o ws
-  keeps_line_27p4 o ws f m k = grind arith
-
-  keeps_line_27p5 : (o : Role) (ws : List ℕ) → PayerKept L27p5 o ws
-  keeps_line_27p5 o ws f m k = elim (cases_eq U 1) [ inl same ↦ rw (eq-eqb U 1 same) (grind arith) | inr other ↦ rw (ne_eqb U 1 other) (grind arith) ]
-
-  keeps_down_28p1 : (o : Role) (ws : List ℕ) → PayerKept Down28p1 o ws
-  keeps_down_28p1 o ws f m k = grind arith
-
-  keeps_down_28p2 : (o : Role) (ws : List ℕ) → PayerKept Down28p2 o ws
-  keeps_down_28p2 o ws f m k = grind arith
-
-  keeps_line_28p1 : (o : Role) (ws : List ℕ) → PayerKept L28p1 o ws
-  keeps_line_28p1 o ws f m k = grind arith
-
-  keeps_line_28p2 : (o : Role) (ws : List ℕ) → PayerKept L28p2 o ws
-  keeps_line_28p2 o ws f m k = grind arith
-
-  keeps_line_29p2 : (o : Role) (ws : List ℕ) → PayerKept L29p2 o ws
-  keeps_line_29p2 o ws f m k = grind arith
-
-  keeps_line_32p1 : (o : Role) (ws : List ℕ) → PayerKept L32p1 o ws
-  keeps_line_32p1 o ws f m k = grind arith
-
   pub payer_kept : (l : Line) (o : Role) (ws : List ℕ) → PayerKept l o ws
-  payer_kept L0p1 = keeps_line_0p1
-  payer_kept L0p2 = keeps_line_0p2
-  payer_kept L1 = keeps_line_1
-  payer_kept L2 = keeps_line_2
-  payer_kept L3 = keeps_line_3
-  payer_kept L4 = keeps_line_4
-  payer_kept L6 = keeps_line_6
-  payer_kept L7 = keeps_line_7
-  payer_kept L8 = keeps_line_8
-  payer_kept L9 = keeps_line_9
-  payer_kept L10 = keeps_line_10
-  payer_kept L11 = keeps_line_11
-  payer_kept L12 = keeps_line_12
-  payer_kept L13 = keeps_line_13
-  payer_kept L14 = keeps_line_14
-  payer_kept L15 = keeps_line_15
-  payer_kept L16 = keeps_line_16
-  payer_kept L16p1 = keeps_line_16p1
-  payer_kept L17 = keeps_line_17
-  payer_kept L18 = keeps_line_18
-  payer_kept L19 = keeps_line_19
-  payer_kept L20 = keeps_line_20
-  payer_kept L21 = keeps_line_21
-  payer_kept L22 = keeps_line_22
-  payer_kept L22p1 = keeps_line_22p1
-  payer_kept L22p2 = keeps_line_22p2
-  payer_kept L23 = keeps_line_23
-  payer_kept L25p1 = keeps_line_25p1
-  payer_kept L25p2 = keeps_line_25p2
-  payer_kept L25p3 = keeps_line_25p3
-  payer_kept L26p1 = keeps_line_26p1
-  payer_kept L27p1 = keeps_line_27p1
-  payer_kept L27p2 = keeps_line_27p2
-  payer_kept L27p3 = keeps_line_27p3
-  payer_kept L27p4 = keeps_line_27p4
-  payer_kept L27p5 = keeps_line_27p5
-  payer_kept Down28p1 = keeps_down_28p1
-  payer_kept Down28p2 = keeps_down_28p2
-  payer_kept L28p1 = keeps_line_28p1
-  payer_kept L28p2 = keeps_line_28p2
-  payer_kept L29p2 = keeps_line_29p2
-  payer_kept L32p1 = keeps_line_32p1
+  payer_kept L0p2 o [] f m k = grind arith
+  payer_kept L0p2 o (y ∷ ys) f m k = elim (cases_eq y (suc i)) [ inl same ↦ rw (eq-eqb y (suc i) same) (grind arith) | inr other ↦ rw (ne_eqb y (suc i) other) (grind arith) ]
+  payer_kept L6 o ws f m k = elim (cases_eq P 1) [ inl same ↦ rw (eq-eqb P 1 same) (grind arith) | inr other ↦ rw (ne_eqb P 1 other) (grind arith) ]
+  payer_kept L10 o ws f m k = elim (cases_eq x 0) [ inl same ↦ rw (eq-eqb x 0 same) (grind arith) | inr other ↦ rw (ne_eqb x 0 other) (grind arith) ]
+  payer_kept L11 o ws f m k = elim (cases_eq X x) [ inl same ↦ rw (eq-eqb X x same) (grind arith) | inr other ↦ rw (ne_eqb X x other) (grind arith) ]
+  payer_kept L12 o ws f m k = elim (cases_eq P 1) [ inl same ↦ rw (eq-eqb P 1 same) (grind arith) | inr other ↦ rw (ne_eqb P 1 other) (grind arith) ]
+  payer_kept L13 o ws f m k = elim (cases_eq C 0) [ inl same ↦ rw (eq-eqb C 0 same) (grind arith) | inr other ↦ rw (ne_eqb C 0 other) (grind arith) ]
+  payer_kept L14 o ws f m k = elim (cases_eq X (suc i)) [ inl same ↦ rw (eq-eqb X (suc i) same) (grind arith) | inr other ↦ rw (ne_eqb X (suc i) other) (grind arith) ]
+  payer_kept L19 o ws f m k = elim (cases_eq x 0) [ inl same ↦ rw (eq-eqb x 0 same) (grind arith) | inr other ↦ rw (ne_eqb x 0 other) (grind arith) ]
+  payer_kept L21 o ws f m k = elim (cases_eq X 0) [ inl same ↦ rw (eq-eqb X 0 same) (grind arith) | inr other ↦ rw (ne_eqb X 0 other) (grind arith) ]
+  payer_kept L22 o ws f m k = elim (cases_eq G d) [ inl same ↦ rw (eq-eqb G d same) (grind arith) | inr other ↦ rw (ne_eqb G d other) (grind arith) ]
+  payer_kept L22p1 o ws f m k = elim (cases_eq U 2) [ inl same ↦ rw (eq-eqb U 2 same) (grind arith) | inr other ↦ rw (ne_eqb U 2 other) (grind arith) ]
+  payer_kept L22p2 o ws f m k = elim (cases_eq V 0) [ inl same ↦ rw (eq-eqb V 0 same) (grind arith) | inr other ↦ rw (ne_eqb V 0 other) (grind arith) ]
+  payer_kept L27p1 o ws f m k = elim (cases_lt 1 C) [ inl more ↦ rw (lt-ltb 1 C more) (grind arith) | inr few ↦ rw (le-ltb 1 C few) (grind arith) ]
+  payer_kept L27p3 o ws f m k = elim (cases_lt 1 C) [ inl more ↦ rw (lt-ltb 1 C more) (grind arith) | inr few ↦ rw (le-ltb 1 C few) (grind arith) ]
+  payer_kept L27p5 o ws f m k = elim (cases_eq U 1) [ inl same ↦ rw (eq-eqb U 1 same) (grind arith) | inr other ↦ rw (ne_eqb U 1 other) (grind arith) ]
+  payer_kept l o ws f m k = grind arith
 
-  -- a deed that only reads or asks leaves the cells and the copies of others as they are
   pub others_kept : (l : Line) (o : Role) (ws : List ℕ) → OthersKept l o ws
-  others_kept L0p2 o ws f m b theirs held t k = k
-  others_kept L1 o ws f m b theirs held t k = k
-  others_kept L2 o ws f m b theirs held t k = k
-  others_kept L6 o ws f m b theirs held t k = k
-  others_kept L9 o ws f m b theirs held t k = k
-  others_kept L10 o ws f m b theirs held t k = k
-  others_kept L12 o ws f m b theirs held t k = k
-  others_kept L13 o ws f m b theirs held t k = k
-  others_kept L17 o ws f m b theirs held t k = k
-  others_kept L18 o ws f m b theirs held t k = k
-  others_kept L19 o ws f m b theirs held t k = k
-  others_kept L21 o ws f m b theirs held t k = k
-  others_kept L22 o ws f m b theirs held t k = k
-  others_kept L22p1 o ws f m b theirs held t k = k
-  others_kept L22p2 o ws f m b theirs held t k = k
-  others_kept L27p1 o ws f m b theirs held t k = k
-  others_kept L27p3 o ws f m b theirs held t k = k
   others_kept l o ws f m b theirs held t k = grind arith

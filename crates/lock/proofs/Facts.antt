@@ -4,7 +4,7 @@
 -- 16 to 36 are counted, 23 to 37 past the gate, 27 to 37 in the section, 25 to 32 upgrading, 9 to 15 promoting.
 use Rattle.std.proofs.Common.{◌≡◌, ℕ, suc, ◌+◌, ◌<◌, ◌≤◌, cond, eqb, ◌≢◌, List, get_or}
 use Rattle.lines.specs.declared.deed.Deed.{Deed}
-use Rattle.lines.specs.declared.deed.Deed.TheVariants.{Touch, Join, First, Quit, Nothing}
+use Rattle.lines.specs.declared.deed.Deed.TheVariants.{Join, Quit}
 use Rattle.lines.specs.declared.place.Line.{Line}
 use Rattle.lines.specs.declared.place.Line.TheVariants.{L0p1, L0p2, L1, L2, L3, L4, L6, L7, L8, L9, L10, L11, L12, L13, L14, L15, L16, L16p1, L17, L18, L19, L20, L21, L22, L22p1, L22p2, L23, L25p1, L25p2, L25p3, L26p1, L27p1, L27p2, L27p3, L27p4, L27p5, Down28p1, Down28p2, L28p1, L28p2, L29p2, L32p1}
 use Rattle.lines.specs.declared.place.Place.{Place}
@@ -48,14 +48,12 @@ pub record Task : Type 0 where
 
 -- 99 stands for the first line of a call, which no task has as its next line
 abbrev pub rank_of_line : Line → ℕ
-rank_of_line L0p1 = 99
 rank_of_line L0p2 = 1
 rank_of_line L1 = 2
 rank_of_line L2 = 3
 rank_of_line L3 = 4
 rank_of_line L4 = 5
 rank_of_line L6 = 6
-rank_of_line L7 = 99
 rank_of_line L8 = 38
 rank_of_line L9 = 9
 rank_of_line L10 = 10
@@ -64,7 +62,6 @@ rank_of_line L12 = 12
 rank_of_line L13 = 13
 rank_of_line L14 = 14
 rank_of_line L15 = 15
-rank_of_line L16 = 99
 rank_of_line L16p1 = 16
 rank_of_line L17 = 17
 rank_of_line L18 = 18
@@ -74,22 +71,17 @@ rank_of_line L21 = 21
 rank_of_line L22 = 22
 rank_of_line L22p1 = 23
 rank_of_line L22p2 = 24
-rank_of_line L23 = 99
-rank_of_line L25p1 = 99
 rank_of_line L25p2 = 36
 rank_of_line L25p3 = 35
-rank_of_line L26p1 = 99
-rank_of_line L27p1 = 99
 rank_of_line L27p2 = 32
 rank_of_line L27p3 = 31
 rank_of_line L27p4 = 30
 rank_of_line L27p5 = 29
-rank_of_line Down28p1 = 99
 rank_of_line Down28p2 = 27
-rank_of_line L28p1 = 99
 rank_of_line L28p2 = 26
 rank_of_line L29p2 = 25
 rank_of_line L32p1 = 39
+rank_of_line l = 99
 
 abbrev pub rank_inside : Role → Standing → ℕ
 rank_inside Reader Normal = 33
@@ -208,11 +200,9 @@ abbrev pub Stays : Task → Task → Type 0
 Stays a a' = a.writer ≡ 1 → 1 ≤ a.rank → (a'.writer ≡ 1) × (1 ≤ a'.rank)
 
 abbrev pub Fits : Deed → Cells → Task → Task → Type 0
-Fits (Touch op) c a a' = Stays a a'
 Fits Join c a a' = (a.rank ≡ 0) × (a'.writer ≡ 1) × (1 ≤ a'.rank)
-Fits First c a a' = Stays a a'
 Fits Quit c a a' = c.head ≡ a.number
-Fits Nothing c a a' = Stays a a'
+Fits d c a a' = Stays a a'
 
 -- the task a moves the cells from c to c' by a deed, and is a' then
 pub record Keeps (o : Deed) (c : Cells) (a : Task) (c' : Cells) (a' : Task) : Type 0 where
@@ -230,44 +220,12 @@ pub record Keeps (o : Deed) (c : Cells) (a : Task) (c' : Cells) (a' : Task) : Ty
 -- where a task is before a line
 abbrev pub Before : Line → Task → Type 0
 Before L0p1 a = (a.rank ≡ 0) × (a.writer ≡ 1)
-Before L0p2 a = a.rank ≡ 1
-Before L1 a = a.rank ≡ 2
-Before L2 a = a.rank ≡ 3
-Before L3 a = a.rank ≡ 4
-Before L4 a = a.rank ≡ 5
-Before L6 a = a.rank ≡ 6
 Before L7 a = a.rank ≡ 37
-Before L8 a = a.rank ≡ 38
-Before L9 a = a.rank ≡ 9
-Before L10 a = a.rank ≡ 10
-Before L11 a = a.rank ≡ 11
-Before L12 a = a.rank ≡ 12
-Before L13 a = a.rank ≡ 13
-Before L14 a = a.rank ≡ 14
-Before L15 a = a.rank ≡ 15
 Before L16 a = (a.rank ≡ 0) × (a.writer ≡ 0)
-Before L16p1 a = a.rank ≡ 16
-Before L17 a = a.rank ≡ 17
-Before L18 a = a.rank ≡ 18
-Before L19 a = a.rank ≡ 19
-Before L20 a = a.rank ≡ 20
-Before L21 a = a.rank ≡ 21
-Before L22 a = a.rank ≡ 22
-Before L22p1 a = a.rank ≡ 23
-Before L22p2 a = a.rank ≡ 24
 Before L23 a = (33 ≤ a.rank) × (a.rank ≤ 34) × (a.writer ≡ 0)
 Before L25p1 a = a.rank ≡ 37
-Before L25p2 a = a.rank ≡ 36
-Before L25p3 a = a.rank ≡ 35
 Before L26p1 a = (a.rank ≡ 34) × (a.writer ≡ 1)
 Before L27p1 a = (33 ≤ a.rank) × (a.rank ≤ 34) × (a.rank ≡ a.turned_down)
-Before L27p2 a = a.rank ≡ 32
-Before L27p3 a = a.rank ≡ 31
-Before L27p4 a = a.rank ≡ 30
-Before L27p5 a = a.rank ≡ 29
 Before Down28p1 a = a.rank ≡ 28
-Before Down28p2 a = a.rank ≡ 27
 Before L28p1 a = a.rank ≡ 28
-Before L28p2 a = a.rank ≡ 26
-Before L29p2 a = a.rank ≡ 25
-Before L32p1 a = a.rank ≡ 39
+Before l a = a.rank ≡ rank_of_line l

@@ -1,31 +1,31 @@
 -- What the questions of a call ask is what it needs: where none is answered no it has that, and where it has that none is.
 use Rattle.std.proofs.Common.{◌≡◌, ℕ, ◌+◌, ◌<◌, ◌≤◌, ◌⊎◌, true, eqb, leb, ltb, length, get_or, Some, None, Option, sym, refl, ap, ◌∙◌, subst, inl, inr, arith}
-use Rattle.std.proofs.lemmas.Bool.{and_from, and_parts, cases_Bool, eq-eqb, eqb-true, false≢true, le-leb, leb-true, lt-ltb, ltb-true}
+use Rattle.std.proofs.lemmas.Bool.{and_from, and_parts, eq-eqb, eqb-true, false≢true, le-leb, leb-true, lt-ltb, ltb-true}
+use Rattle.memory.specs.Calls.{Doing}
 use Rattle.lines.specs.declared.place.Place.{Place}
-use Rattle.lines.specs.declared.place.Place.TheVariants.{Rest, Inside, Next}
+use Rattle.lines.specs.declared.place.Place.TheVariants.{Rest, Next}
 use Rattle.lines.specs.declared.place.Right.{Right}
 use Rattle.lines.specs.declared.place.Right.TheVariants.{Reading, Writing}
 use Rattle.lines.specs.Rights.{right_of, same_right}
-use Rattle.calls.specs.declared.refusal.Refusal.{Refusal}
-use Rattle.calls.specs.declared.refusal.Refusal.TheVariants.{Finished, NoPass, NoRow, NoTask, OtherLock, OtherRight, Shut, Stored, Thickness, Upgrades}
-use Rattle.calls.specs.Questions.{ask, advance_refusal, advance_refusal_at, begin_refusal, begin_refusal_at, is_out, out_for, pass_refusal, row_refusal, take_refusal, task_refusal, thickness_refusal, upgrade_refusal}
-use Rattle.calls.specs.Records.{begun, downgrading, leaving, upgrading, with_out}
-use Rattle.calls.specs.States.{State, record_of, with_record, with_row}
-use Rattle.calls.specs.Steps.{Answer, Call, Verdict, advance, asked, at_once, begin, done, downgrade, gives, hands, judge, lay_back, leave, line, no, put, read, refuse, row_answer, take, upgrade}
+use Rattle.calls.specs.declared.refusal.Refusal.TheVariants.{Finished, NoPass, NoRow, NoTask, OtherLock, OtherRight, Shut, Thickness, Upgrades}
+use Rattle.calls.specs.Questions.{ask, advance_refusal_at, begin_refusal_at, is_out, out_for, pass_refusal, row_refusal, take_refusal, task_refusal, thickness_refusal}
+use Rattle.calls.specs.States.{State, record_of}
+use Rattle.calls.specs.Steps.{Answer, Call, Verdict, advance, at_once, begin, downgrade, gives, judge, lay_back, leave, line, put, read, refuse, row_answer, take, upgrade}
 use Rattle.calls.proofs.Obeyed.{yes}
 use Rattle.lock.specs.Charges.{unfinished}
 use Rattle.lock.specs.Needs.{RefusedAsDamaged, IsRefused, Needs, OnLine}
 use Rattle.lock.specs.Runs.{task_of, was_obeyed}
-use Rattle.lock.proofs.Recorded.{told, some_none}
+use Rattle.lock.proofs.Asked.{Passed, outcome, passed}
+use Rattle.lock.proofs.Measured.{row_says}
+use Rattle.lock.proofs.Recorded.{told}
 use Rattle.lock.proofs.Runs.{Obeyed}
 
 -- What the questions on a pass tell.
 
 pub same_is : (v w : Right) → same_right v w ≡ true → v ≡ w
 same_is Reading Reading h = refl
-same_is Reading Writing h = absurd (false≢true h)
-same_is Writing Reading h = absurd (false≢true h)
 same_is Writing Writing h = refl
+same_is v w h = cc
 
 pub same_itself : (w : Right) → same_right w w ≡ true
 same_itself Reading = refl
@@ -36,19 +36,16 @@ out_is None w h = absurd (false≢true h)
 out_is (Some v) w h = ap Some (same_is v w h)
 
 pub takes : (has out : Option Right) (w : Right) → take_refusal has out w ≡ None → (has ≡ Some w) × (out ≡ None)
-takes None out w h = absurd (some_none _ h)
-takes (Some v) (Some x) w h = absurd (some_none _ h)
 takes (Some v) None w h = (ap Some (same_is v w (yes (same_right v w) OtherRight None h).0), refl)
+takes has out w h = cc
 
 pub may_begin : (p : Place) (n : ℕ) → begin_refusal_at p n ≡ None → (p ≡ Rest) × (n + unfinished p < 1000000)
 may_begin Rest n h = (refl, let k = ltb-true n 1000000 (yes (ltb n 1000000) Finished None h).0 in omega arith)
-may_begin Inside n h = absurd (some_none _ h)
-may_begin (Next l) n h = absurd (some_none _ h)
+may_begin p n h = cc
 
 pub may_advance : (p : Place) → advance_refusal_at p ≡ None → OnLine p
-may_advance Rest h = absurd (some_none _ h)
-may_advance Inside h = absurd (some_none _ h)
 may_advance (Next l) h = (l, refl)
+may_advance p h = cc
 
 pub in_rows : (row rows : ℕ) → row_refusal row rows ≡ None → row < rows
 in_rows row rows h = ltb-true row rows (yes (ltb row rows) NoRow None h).0
@@ -71,8 +68,6 @@ shown s w k t h =
 abbrev pub NeedsIn : State → Call → Type 0
 NeedsIn s c = Needs s.number (length s.records) (length s.table) (told (record_of s (task_of c))) (record_of s (task_of c)).track c
 
--- a call that has it meets no question
-
 pub clear_task : (s : State) (t : ℕ) → s.opened ≡ true → 1 ≤ t → t ≤ length s.records → task_refusal s t ≡ None
 clear_task s t opened low high =
     ap (λ b. ask b Shut (ask (leb 1 t) NoTask (ask (leb t (length s.records)) NoTask None))) opened
@@ -88,8 +83,7 @@ clear_pass s w k t opened low high number e =
 
 pub clear_begin : (p : Place) (n : ℕ) → p ≡ Rest → n + unfinished p < 1000000 → begin_refusal_at p n ≡ None
 clear_begin Rest n e h = ap (λ b. ask b Finished None) (lt-ltb n 1000000 (omega arith))
-clear_begin Inside n e h = let z : ◌≡◌ {A = ℕ} 0 1 = cc in absurd (omega arith)
-clear_begin (Next l) n e h = let z : ◌≡◌ {A = ℕ} 0 1 = cc in absurd (omega arith)
+clear_begin p n e h = cc
 
 pub clear_take : (has out : Option Right) (w : Right) → has ≡ Some w → out ≡ None → take_refusal has out w ≡ None
 clear_take has out w e k = rw (e, k, same_itself w) refl
@@ -100,23 +94,11 @@ clear_row row rows h = ap (λ b. ask b NoRow None) (lt-ltb row rows h)
 pub clear_thickness : (n : ℕ) → 1 ≤ n → n ≤ 1000000 → thickness_refusal n ≡ None
 clear_thickness n low high = ap (λ b. ask b Thickness (ask (leb n 1000000) Thickness None)) (le-leb 1 n low) ∙ ap (λ b. ask b Thickness None) (le-leb n 1000000 high)
 
--- a row answers a thickness or absence, or that it is damaged
 pub row_clear : (n : ℕ) → (was_obeyed (row_answer n) ≡ true) ⊎ IsRefused (row_answer n) 32
-row_clear n =
-    elim (cases_Bool (eqb n 0)) [
-      | inl none ↦ inl (rw none refl)
-      | inr some ↦ elim (cases_Bool (leb n 1000000)) [ inl few ↦ inl (rw (some, few) refl) | inr much ↦ inr (rw (some, much) refl) ]
-    ]
+row_clear n = elim (row_says n) [ inl p ↦ inl (ap was_obeyed p.1) | inr e ↦ inr (subst (λ a. IsRefused a 32) (sym e) refl) ]
 
 pub told_row : (n : ℕ) → was_obeyed (row_answer n) ≡ true → (o : Option ℕ) × (row_answer n ≡ gives o)
-told_row n h =
-    elim (cases_Bool (eqb n 0)) [
-      | inl none ↦ (None, rw none refl)
-      | inr some ↦ elim (cases_Bool (leb n 1000000)) [
-        | inl few ↦ (Some n, rw (some, few) refl)
-        | inr much ↦ let k : row_answer n ≡ no Stored = rw (some, much) refl in absurd (false≢true (sym (ap was_obeyed k) ∙ h))
-      ]
-    ]
+told_row n h = elim (row_says n) [ inl p ↦ p | inr e ↦ absurd (false≢true (sym (ap was_obeyed e) ∙ h)) ]
 
 -- a verdict that is no refusal, but for a damaged row
 abbrev pub Clear : Call → Verdict → Type 0
@@ -124,43 +106,29 @@ Clear c (refuse e) = ⊥
 Clear c (line t r) = Unit {0}
 Clear c (at_once a z) = (was_obeyed a ≡ true) ⊎ RefusedAsDamaged c a
 
-pub asked_clear : (c : Call) (o : Option Refusal) (v : Verdict) → o ≡ None → Clear c v → Clear c (asked o v)
-asked_clear c o v e h = subst (λ x. Clear c (asked x v)) (sym e) h
+-- a call that has what it needs meets no question
+pub unasked : (c : Call) (s : State) → s.opened ≡ true → NeedsIn s c → Passed c s
+unasked (begin t) s opened (low, high, (rests, few)) = (clear_task s t opened low high, (clear_begin (record_of s t).track.place (record_of s t).account.finished rests few, tt))
+unasked (advance t) s opened (low, high, (l, is)) = (clear_task s t opened low high, (ap advance_refusal_at is, tt))
+unasked (take w t) s opened (low, high, (has, none)) = (clear_task s t opened low high, (clear_take (right_of (record_of s t).track) (record_of s t).out w has none, tt))
+unasked (lay_back w k t) s opened (low, high, (number, out)) = (clear_pass s w k t opened low high number out, tt)
+unasked (upgrade k t) s opened (low, high, ((number, out), few)) = (clear_pass s Reading k t opened low high number out, (ap (λ b. ask b Upgrades None) (lt-ltb (record_of s t).account.u 1000 few), tt))
+unasked (downgrade k t) s opened (low, high, (number, out)) = (clear_pass s Writing k t opened low high number out, tt)
+unasked (leave w k t) s opened (low, high, (number, out)) = (clear_pass s w k t opened low high number out, tt)
+unasked (read w k t row) s opened (low, high, ((number, out), there)) = (clear_pass s w k t opened low high number out, (clear_row row (length s.table) there, tt))
+unasked (put k t row n) s opened (low, high, ((number, out), there, some, few)) = (clear_pass s Writing k t opened low high number out, (clear_row row (length s.table) there, (clear_thickness n some few, tt)))
+
+outcome_clear : (c : Call) (s : State) → Clear c (outcome c s)
+outcome_clear (read w k t row) s = row_clear (get_or s.table row 0)
+outcome_clear (take w t) s = inl refl
+outcome_clear (lay_back w k t) s = inl refl
+outcome_clear (put k t row n) s = inl refl
+outcome_clear c s = tt
 
 pub judged_clear : (c : Call) (s : State) → s.opened ≡ true → NeedsIn s c → Clear c (judge c s)
-judged_clear (begin t) s opened (low, high, (rests, few)) =
-    let r = record_of s t in
-    asked_clear (begin t) (task_refusal s t) (asked (begin_refusal r) (line t (begun r))) (clear_task s t opened low high)
-    (asked_clear (begin t) (begin_refusal r) (line t (begun r)) (clear_begin r.track.place r.account.finished rests few) tt)
-judged_clear (advance t) s opened (low, high, (l, is)) =
-    let r = record_of s t in
-    asked_clear (advance t) (task_refusal s t) (asked (advance_refusal r) (line t r)) (clear_task s t opened low high) (asked_clear (advance t) (advance_refusal r) (line t r) (ap advance_refusal_at is) tt)
-judged_clear (take w t) s opened (low, high, (has, none)) =
-    let r = record_of s t in
-    let free = take_refusal (right_of r.track) r.out w in
-    let v = at_once (hands w s.number t) (with_record s t (with_out r (Some w))) in
-    asked_clear (take w t) (task_refusal s t) (asked free v) (clear_task s t opened low high) (asked_clear (take w t) free v (clear_take (right_of r.track) r.out w has none) (inl refl))
-judged_clear (lay_back w k t) s opened (low, high, (number, out)) =
-    asked_clear (lay_back w k t) (pass_refusal s w k t) (at_once done (with_record s t (with_out (record_of s t) None))) (clear_pass s w k t opened low high number out) (inl refl)
-judged_clear (upgrade k t) s opened (low, high, ((number, out), few)) =
-    let r = record_of s t in
-    asked_clear (upgrade k t) (pass_refusal s Reading k t) (asked (upgrade_refusal r) (line t (upgrading r))) (clear_pass s Reading k t opened low high number out)
-    (asked_clear (upgrade k t) (upgrade_refusal r) (line t (upgrading r)) (ap (λ b. ask b Upgrades None) (lt-ltb r.account.u 1000 few)) tt)
-judged_clear (downgrade k t) s opened (low, high, (number, out)) =
-    asked_clear (downgrade k t) (pass_refusal s Writing k t) (line t (downgrading (record_of s t))) (clear_pass s Writing k t opened low high number out) tt
-judged_clear (leave w k t) s opened (low, high, (number, out)) =
-    asked_clear (leave w k t) (pass_refusal s w k t) (line t (leaving (record_of s t))) (clear_pass s w k t opened low high number out) tt
-judged_clear (read w k t row) s opened (low, high, ((number, out), there)) =
-    let v = at_once (row_answer (get_or s.table row 0)) s in
-    asked_clear (read w k t row) (pass_refusal s w k t) (asked (row_refusal row (length s.table)) v) (clear_pass s w k t opened low high number out)
-    (asked_clear (read w k t row) (row_refusal row (length s.table)) v (clear_row row (length s.table) there) (row_clear (get_or s.table row 0)))
-judged_clear (put k t row n) s opened (low, high, ((number, out), there, some, few)) =
-    let v = at_once done (with_row s row n) in
-    asked_clear (put k t row n) (pass_refusal s Writing k t) (asked (row_refusal row (length s.table)) (asked (thickness_refusal n) v)) (clear_pass s Writing k t opened low high number out)
-    (asked_clear (put k t row n) (row_refusal row (length s.table)) (asked (thickness_refusal n) v) (clear_row row (length s.table) there)
-    (asked_clear (put k t row n) (thickness_refusal n) v (clear_thickness n some few) (inl refl)))
+judged_clear c s opened h = subst (Clear c) (sym (passed c s (unasked c s opened h))) (outcome_clear c s)
 
-pub obeyed_clear : (c : Call) (v : Verdict) (s z : State) (a : Answer) → Obeyed v s a z → Clear c v → (was_obeyed a ≡ true) ⊎ RefusedAsDamaged c a
-obeyed_clear c (refuse f) s z a x h = absurd h
-obeyed_clear c (line t r) s z a (x, y) h = inl (ap was_obeyed x)
-obeyed_clear c (at_once b w) s z a (x, y) h = subst (λ d. (was_obeyed d ≡ true) ⊎ RefusedAsDamaged c d) (sym x) h
+pub obeyed_clear : {M : Type 0} (does : Doing M) (c : Call) (v : Verdict) (s z : State) (m n : M) (a : Answer) → Obeyed does v s m a z n → Clear c v → (was_obeyed a ≡ true) ⊎ RefusedAsDamaged c a
+obeyed_clear does c (refuse f) s z m n a x h = absurd h
+obeyed_clear does c (line t r) s z m n a (x, y) h = inl (ap was_obeyed x)
+obeyed_clear does c (at_once b w) s z m n a (x, y, same) h = subst (λ d. (was_obeyed d ≡ true) ⊎ RefusedAsDamaged c d) (sym x) h

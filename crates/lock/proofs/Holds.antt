@@ -1,5 +1,5 @@
 -- The facts hold of a whole lock: of its cells, its queue and all its tasks; and a line of one task keeps them.
-use Rattle.std.proofs.Common.{◌≡◌, ℕ, suc, pred, ◌+◌, ◌<◌, ◌≤◌, cond, ◌≢◌, List, [], ◌∷◌, ◌++◌, length, get_or, set, sum_by, refl, sym, ap, ◌∙◌, subst, inl, inr, arith}
+use Rattle.std.proofs.Common.{◌≡◌, ℕ, zero, suc, pred, ◌+◌, ◌<◌, ◌≤◌, cond, ◌≢◌, List, [], ◌∷◌, ◌++◌, length, get_or, set, sum_by, refl, sym, ap, ◌∙◌, subst, inl, inr, arith}
 use Rattle.std.specs.List.{AllByRecursion as All}
 use Rattle.std.proofs.lemmas.List.{get_or-set_same, get_or-set_other, get_or_past, length-set}
 use Rattle.std.proofs.lemmas.List.Sums.{sum_by-set, get_or-le-sum_by, sum_by-cons, count_by-le-length}
@@ -9,7 +9,7 @@ use Rattle.memory.specs.declared.operation.Operation.{Operation}
 use Rattle.memory.specs.declared.operation.Operation.TheVariants.{Read, Write, Add, Swap}
 use Rattle.memory.specs.Operations.{after}
 use Rattle.lines.specs.declared.deed.Deed.{Deed}
-use Rattle.lines.specs.declared.deed.Deed.TheVariants.{Touch, Join, First, Quit, Nothing}
+use Rattle.lines.specs.declared.deed.Deed.TheVariants.{Touch, Join, Quit}
 use Rattle.lines.specs.declared.place.Line.{Line}
 use Rattle.lines.specs.declared.place.Place.{Place}
 use Rattle.lines.specs.declared.place.Role.{Role}
@@ -32,6 +32,18 @@ at rs i = get_or rs i (fresh Reader)
 
 abbrev pub seen_at : List Record → ℕ → Task
 seen_at rs i = seen i (at rs i).track
+
+-- what holds of the record that is put in at place i, and of each one before it, holds of each one then
+pub each_set : (P : ℕ → Record → Type 0) (rs : List Record) (i : ℕ) (r : Record) → P i r → ((j : ℕ) → P j (at rs j)) → (j : ℕ) → P j (at (set rs i r) j)
+each_set P [] i r own all j = all j
+each_set P (x ∷ rs) zero r own all zero = own
+each_set P (x ∷ rs) zero r own all (suc j) = all (suc j)
+each_set P (x ∷ rs) (suc i) r own all zero = all 0
+each_set P (x ∷ rs) (suc i) r own all (suc j) = each_set (λ n. P (suc n)) rs i r own (λ n. all (suc n)) j
+
+-- the same where it is not known of the one that was there
+pub each_other : (P : ℕ → Record → Type 0) (rs : List Record) (i : ℕ) (r : Record) → i < length rs → P i r → ((j : ℕ) → j ≢ i → P j (at rs j)) → (j : ℕ) → P j (at (set rs i r) j)
+each_other P rs i r h own others j = elim (cases_eq j i) [ inl e ↦ rw (e, get_or-set_same rs i r (fresh Reader) h) own | inr n ↦ rw (get_or-set_other rs i j r (fresh Reader) n) (others j n) ]
 
 -- Counts.
 
@@ -99,10 +111,7 @@ after_seven (Swap c e n) cs = grind (arith, length-set)
 
 pub deed_seven : (d : Deed) (cs : List ℕ) → length (cells_after d cs) ≡ length cs
 deed_seven (Touch op) cs = after_seven op cs
-deed_seven Join cs = refl
-deed_seven First cs = refl
-deed_seven Quit cs = refl
-deed_seven Nothing cs = refl
+deed_seven d cs = refl
 
 -- The record at place i is replaced by r.
 module _ (rs : List Record) (i : ℕ) (r : Record) (h : i < length rs) where
@@ -132,20 +141,16 @@ module _ (rs : List Record) (i : ℕ) (r : Record) (h : i < length rs) where
 
   module _ (c : Cells) where
     queue_waits : (d : Deed) (ws : List ℕ) → c.head ≡ get_or ws 0 0 → Fits d c old new → All (Waits rs) ws → Distinct ws → All (Waits (set rs i r)) (waiting_after d (suc i) ws)
-    queue_waits (Touch op) ws _ f w d = All-weaker (Waits rs) _ (waits_same f) ws w
     queue_waits Join ws _ f w d = All-push (Waits (set rs i r)) ws (suc i) (All-weaker (Waits rs) _ (λ t k. waits_other t (rests_apart f.0 t k) k) ws w) (rw (get_or-set_same rs i r (fresh Reader) h) (omega arith, f.1, f.2))
-    queue_waits First ws _ f w d = All-weaker (Waits rs) _ (waits_same f) ws w
     queue_waits Quit [] _ f w d = tt
     queue_waits Quit (y ∷ ys) e f w d = waits_others ys (subst (λ (k : ℕ). All (λ z. z ≢ k) ys) (sym e ∙ f) d.0) w.1
-    queue_waits Nothing ws _ f w d = All-weaker (Waits rs) _ (waits_same f) ws w
+    queue_waits d ws _ f w _ = All-weaker (Waits rs) _ (waits_same f) ws w
 
     queue_distinct : (d : Deed) (ws : List ℕ) → Fits d c old new → All (Waits rs) ws → Distinct ws → Distinct (waiting_after d (suc i) ws)
-    queue_distinct (Touch op) ws f w d = d
     queue_distinct Join ws f w d = distinct_push ws (suc i) d (All-weaker (Waits rs) _ (λ t k. rests_apart f.0 t k) ws w)
-    queue_distinct First ws f w d = d
     queue_distinct Quit [] f w d = tt
     queue_distinct Quit (y ∷ ys) f w d = d.1
-    queue_distinct Nothing ws f w d = d
+    queue_distinct o ws f w d = d
 
 -- The oldest after a deed, if it is another task, waits.
 
@@ -157,13 +162,11 @@ head_waits rs [] w j e = absurd (omega arith)
 head_waits rs (y ∷ ys) w j e = let z = subst (Waits rs) (sym e) w.0 in (z.1, z.2)
 
 next_waits : (d : Deed) (rs : List Record) (i : ℕ) (ws : List ℕ) → All (Waits rs) ws → (j : ℕ) → j ≢ i → suc j ≡ get_or (waiting_after d (suc i) ws) 0 0 → IsWaiting rs j
-next_waits (Touch op) rs i ws w j n e = head_waits rs ws w j e
 next_waits Join rs i [] w j n e = absurd (omega arith)
 next_waits Join rs i (y ∷ ys) w j n e = head_waits rs (y ∷ ys) w j e
-next_waits First rs i ws w j n e = head_waits rs ws w j e
 next_waits Quit rs i [] w j n e = absurd (omega arith)
 next_waits Quit rs i (y ∷ ys) w j n e = head_waits rs ys w.1 j e
-next_waits Nothing rs i ws w j n e = head_waits rs ws w j e
+next_waits d rs i ws w j n e = head_waits rs ws w j e
 
 once : (ws : List ℕ) (i : ℕ) → Distinct ws → get_or ws 0 0 ≡ suc i → get_or ws 1 0 ≢ suc i
 once [] i d e = omega arith
@@ -201,33 +204,16 @@ module _ (l : Line) (C D G X P U V : ℕ) (ws : List ℕ) (rs : List Record) (i 
     met j n = record { apart = omega arith; sum = omega (arith, g.count, ticks_counted rs i j h n); next = next_waits deed rs i ws g.waits j n; one = g.one j; pair = g.pair i j (λ e. n (sym e)); pair_back = g.pair j i n }
 
     one_kept : (j : ℕ) → OneTask (seen_cells cs' ws') (seen_at rs' j)
-    one_kept j =
-        elim (cases_eq j i) [
-          | inl e ↦ rw (e, get_or-set_same rs i r' (fresh Reader) h, new_is) k.self
-          | inr n ↦ rw (get_or-set_other rs i j r' (fresh Reader) n) (k.other _ (met j n))
-        ]
+    one_kept = each_other (λ j x. OneTask (seen_cells cs' ws') (seen j x.track)) rs i r' h (rw new_is k.self) (λ j n. k.other _ (met j n))
 
     pair_kept : (j m : ℕ) → j ≢ m → TwoTasks (seen_cells cs' ws') (seen_at rs' j) (seen_at rs' m)
-    pair_kept j m n =
-        elim (cases_eq j i) [
-          | inl e ↦
-              elim (cases_eq m i) [
-                | inl f ↦ absurd (n (e ∙ sym f))
-                | inr o ↦ rw (e, get_or-set_same rs i r' (fresh Reader) h, get_or-set_other rs i m r' (fresh Reader) o, new_is) (k.pair _ (met m o))
-              ]
-          | inr p ↦
-              elim (cases_eq m i) [
-                | inl f ↦ rw (f, get_or-set_same rs i r' (fresh Reader) h, get_or-set_other rs i j r' (fresh Reader) p, new_is) (k.pair_back _ (met j p))
-                | inr o ↦ rw (get_or-set_other rs i j r' (fresh Reader) p, get_or-set_other rs i m r' (fresh Reader) o) (k.others _ _ (met j p) (met m o) (g.pair j m n))
-              ]
-        ]
+    pair_kept =
+        let P : Task → ℕ → ℕ → Record → Type 0 = λ a j m y. j ≢ m → TwoTasks (seen_cells cs' ws') a (seen m y.track) in
+        each_other (λ j x. (m : ℕ) → P (seen j x.track) j m (at rs' m)) rs i r' h (each_other (P (seen i r'.track) i) rs i r' h (λ n. absurd (n refl)) (λ m o n. rw new_is (k.pair _ (met m o)))) (λ j p.
+        each_other (P (seen_at rs j) j) rs i r' h (λ n. rw new_is (k.pair_back _ (met j p))) (λ m o n. k.others _ _ (met j p) (met m o) (g.pair j m n)))
 
     register_kept : (j : ℕ) → (at rs' j).track.x ≤ length rs'
-    register_kept j =
-        elim (cases_eq j i) [
-          | inl e ↦ rw (e, get_or-set_same rs i r' (fresh Reader) h, length-set rs i r', is) (k.x_register (length rs) g.x_cell (g.x_register i))
-          | inr n ↦ rw (get_or-set_other rs i j r' (fresh Reader) n, length-set rs i r') (g.x_register j)
-        ]
+    register_kept = each_other (λ j x. x.track.x ≤ length rs') rs i r' h (rw (length-set rs i r', is) (k.x_register (length rs) g.x_cell (g.x_register i))) (λ j n. rw (length-set rs i r') (g.x_register j))
 
     fits_new : Fits deed (seen_cells cs ws) (seen i r) (seen i r'.track)
     fits_new = subst (λ a. Fits deed (seen_cells cs ws) (seen i r) a) (sym new_is) k.fits

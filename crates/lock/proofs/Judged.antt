@@ -1,5 +1,5 @@
 -- What the questions of a call come to on a lock whose facts hold: its own refusal, a line that is the task's next one, or an answer.
-use Rattle.std.proofs.Common.{◌≡◌, ℕ, ◌-◌, ◌≤◌, true, eqb, length, Some, None, Option, refl, arith}
+use Rattle.std.proofs.Common.{◌≡◌, ℕ, ◌-◌, ◌≤◌, true, eqb, length, Some, None, refl, arith}
 use Rattle.std.proofs.lemmas.Bool.{and_parts, leb-true}
 use Rattle.lines.specs.declared.deed.Found.{Found}
 use Rattle.lines.specs.declared.place.Line.{Line}
@@ -34,12 +34,6 @@ pub record Leads (i : ℕ) (r q : Track) (l : Line) : Type 0 where
   pub deed : (t : ℕ) → next_deed t q ≡ deed_of l t r
   pub steps : (f : Found) → stepped q f ≡ settle l r f
 
-none_is_some : {A : Type 0} (x : A) → ◌≡◌ {A = Option A} (Some x) None → ⊥
-none_is_some x h = let z : ◌≡◌ {A = ℕ} 0 1 = cc in omega arith
-
-some_is_none : {A : Type 0} (x : A) → ◌≡◌ {A = Option A} None (Some x) → ⊥
-some_is_none x h = let z : ◌≡◌ {A = ℕ} 0 1 = cc in omega arith
-
 module _ (i prev curr d x : ℕ) where
   abbrev track : Place → Role → Standing → Track
   track p o s = record { role = o; place = p; standing = s; prev = prev; curr = curr; d = d; x = x }
@@ -47,45 +41,31 @@ module _ (i prev curr d x : ℕ) where
   pub begin_leads : (p : Place) (o : Role) (s : Standing) (finished : ℕ) → begin_refusal_at p finished ≡ None → Leads i (track p o s) (goes (track p o s) (begin_line o)) (begin_line o)
   begin_leads Rest Reader s finished h = record { before = (refl, refl); deed = λ t. refl; steps = λ f. refl }
   begin_leads Rest Writer s finished h = record { before = (refl, refl); deed = λ t. refl; steps = λ f. refl }
-  begin_leads Inside o s finished h = absurd (none_is_some _ h)
-  begin_leads (Next l) o s finished h = absurd (none_is_some _ h)
+  begin_leads p o s finished h = cc
 
   on_line : (c : Cells) (l : Line) (o : Role) (s : Standing) → OneTask c (seen i (track (Next l) o s)) → Before l (seen i (track (Next l) o s))
   on_line c l o s m = grind arith
 
   pub advance_leads : (c : Cells) (p : Place) (o : Role) (s : Standing) → OneTask c (seen i (track p o s)) → advance_refusal_at p ≡ None → (l : Line) × Leads i (track p o s) (track p o s) l × (rank_of_line l ≤ 39) × (p ≡ Next l)
-  advance_leads c Rest o s m h = absurd (none_is_some _ h)
-  advance_leads c Inside o s m h = absurd (none_is_some _ h)
   advance_leads c (Next l) o s m h = (l, record { before = on_line c l o s m; deed = λ t. refl; steps = λ f. refl }, m.known_rank, refl)
+  advance_leads c p o s m h = cc
 
   pub upgrade_leads : (p : Place) (o : Role) (s : Standing) → right_at p o s ≡ Some Reading → Leads i (track p o s) (goes (track p o s) upgrade_line) L27p1
-  upgrade_leads Rest o s h = absurd (some_is_none _ h)
   upgrade_leads Inside Reader Normal h = record { before = (omega arith, omega arith, refl); deed = λ t. refl; steps = λ f. refl }
-  upgrade_leads Inside Writer Normal h = let z : ◌≡◌ {A = ℕ} 0 1 = cc in absurd (omega arith)
-  upgrade_leads Inside o Upgraded h = let z : ◌≡◌ {A = ℕ} 0 1 = cc in absurd (omega arith)
-  upgrade_leads Inside Reader Downgraded h = record { before = (omega arith, omega arith, refl); deed = λ t. refl; steps = λ f. refl }
-  upgrade_leads Inside Writer Downgraded h = record { before = (omega arith, omega arith, refl); deed = λ t. refl; steps = λ f. refl }
-  upgrade_leads (Next l) o s h = absurd (some_is_none _ h)
+  upgrade_leads Inside o Downgraded h = record { before = (omega arith, omega arith, refl); deed = λ t. refl; steps = λ f. refl }
+  upgrade_leads p o s h = cc
 
   pub downgrade_leads : (p : Place) (o : Role) (s : Standing) → right_at p o s ≡ Some Writing → Leads i (track p o s) (goes (track p o s) (downgrade_line s)) (downgrade_line s)
-  downgrade_leads Rest o s h = absurd (some_is_none _ h)
-  downgrade_leads Inside Reader Normal h = let z : ◌≡◌ {A = ℕ} 0 1 = cc in absurd (omega arith)
   downgrade_leads Inside Writer Normal h = record { before = refl; deed = λ t. refl; steps = λ f. refl }
-  downgrade_leads Inside Reader Upgraded h = record { before = refl; deed = λ t. refl; steps = λ f. refl }
-  downgrade_leads Inside Writer Upgraded h = record { before = refl; deed = λ t. refl; steps = λ f. refl }
-  downgrade_leads Inside Reader Downgraded h = let z : ◌≡◌ {A = ℕ} 0 1 = cc in absurd (omega arith)
-  downgrade_leads Inside Writer Downgraded h = let z : ◌≡◌ {A = ℕ} 0 1 = cc in absurd (omega arith)
-  downgrade_leads (Next l) o s h = absurd (some_is_none _ h)
+  downgrade_leads Inside o Upgraded h = record { before = refl; deed = λ t. refl; steps = λ f. refl }
+  downgrade_leads p o s h = cc
 
   pub leave_leads : (p : Place) (o : Role) (s : Standing) (w : Right) → right_at p o s ≡ Some w → Leads i (track p o s) (goes (track p o s) (leave_line o s)) (leave_line o s)
-  leave_leads Rest o s w h = absurd (some_is_none _ h)
   leave_leads Inside Reader Normal w h = record { before = (omega arith, omega arith, refl); deed = λ t. refl; steps = λ f. refl }
-  leave_leads Inside Writer Normal w h = record { before = refl; deed = λ t. refl; steps = λ f. refl }
-  leave_leads Inside Reader Upgraded w h = record { before = refl; deed = λ t. refl; steps = λ f. refl }
-  leave_leads Inside Writer Upgraded w h = record { before = refl; deed = λ t. refl; steps = λ f. refl }
   leave_leads Inside Reader Downgraded w h = record { before = (omega arith, omega arith, refl); deed = λ t. refl; steps = λ f. refl }
   leave_leads Inside Writer Downgraded w h = record { before = (refl, refl); deed = λ t. refl; steps = λ f. refl }
-  leave_leads (Next l) o s w h = absurd (some_is_none _ h)
+  leave_leads Inside o s w h = record { before = refl; deed = λ t. refl; steps = λ f. refl }
+  leave_leads p o s w h = cc
 
 -- what the call of a line makes of the account before it: begin starts it anew, upgrade and downgrade count
 abbrev pub account_of_call : Line → Account → Account
@@ -102,16 +82,12 @@ begin_account Writer a = refl
 
 downgrade_account : (s : Standing) (a : Account) → one_more_downgrade a ≡ account_of_call (downgrade_line s) a
 downgrade_account Normal a = refl
-downgrade_account Upgraded a = refl
-downgrade_account Downgraded a = refl
+downgrade_account s a = refl
 
 leave_account : (o : Role) (s : Standing) (a : Account) → a ≡ account_of_call (leave_line o s) a
 leave_account Reader Normal a = refl
 leave_account Writer Normal a = refl
-leave_account Reader Upgraded a = refl
-leave_account Writer Upgraded a = refl
-leave_account Reader Downgraded a = refl
-leave_account Writer Downgraded a = refl
+leave_account o s a = refl
 
 -- a line that is some task's next one is no first line of a call
 later_account : (l : Line) (a : Account) → rank_of_line l ≤ 39 → a ≡ account_of_call l a
@@ -138,7 +114,7 @@ pub record Due (s : State) (t : ℕ) (r : Record) : Type 0 where
   pub leads : Leads (t - 1) (record_of s t).track r.track next
   pub account : r.account ≡ account_of_call next (record_of s t).account
   pub ordered : in_order r ≡ true
-  pub on_line : advance_refusal r ≡ None
+  pub stands : r.track.place ≡ Next next
 
 -- what the questions on a task and on a pass tell
 
@@ -169,20 +145,20 @@ module _ (s : State) (t : ℕ) (g : Lawful s) where
   due_begin there free =
       let (low, high) = task_there s t there in
       let k = r.track in
-      record { low = low; high = high; next = begin_line k.role; leads = begin_leads (t - 1) k.prev k.curr k.d k.x k.place k.role k.standing r.account.finished free; account = begin_account k.role r.account; ordered = begun_in_order r (g.ordered (t - 1)) free; on_line = refl }
+      record { low = low; high = high; next = begin_line k.role; leads = begin_leads (t - 1) k.prev k.curr k.d k.x k.place k.role k.standing r.account.finished free; account = begin_account k.role r.account; ordered = begun_in_order r (g.ordered (t - 1)) free; stands = refl }
 
   pub due_advance : task_refusal s t ≡ None → advance_refusal r ≡ None → Due s t r
   due_advance there on =
       let (low, high) = task_there s t there in
       let k = r.track in
       let (l, leads, later, is) = advance_leads (t - 1) k.prev k.curr k.d k.x _ k.place k.role k.standing (g.holds.one (t - 1)) on in
-      record { low = low; high = high; next = l; leads = leads; account = later_account l r.account later; ordered = g.ordered (t - 1); on_line = on }
+      record { low = low; high = high; next = l; leads = leads; account = later_account l r.account later; ordered = g.ordered (t - 1); stands = is }
 
   pub due_upgrade : Holding s Reading t → upgrade_refusal r ≡ None → Due s t (upgrading r)
-  due_upgrade p few = let k = r.track in record { low = p.low; high = p.high; next = L27p1; leads = upgrade_leads (t - 1) k.prev k.curr k.d k.x k.place k.role k.standing p.right; account = refl; ordered = upgrading_in_order r (g.ordered (t - 1)) p.out few; on_line = refl }
+  due_upgrade p few = let k = r.track in record { low = p.low; high = p.high; next = L27p1; leads = upgrade_leads (t - 1) k.prev k.curr k.d k.x k.place k.role k.standing p.right; account = refl; ordered = upgrading_in_order r (g.ordered (t - 1)) p.out few; stands = refl }
 
   pub due_downgrade : Holding s Writing t → Due s t (downgrading r)
-  due_downgrade p = let k = r.track in record { low = p.low; high = p.high; next = downgrade_line k.standing; leads = downgrade_leads (t - 1) k.prev k.curr k.d k.x k.place k.role k.standing p.right; account = downgrade_account k.standing r.account; ordered = downgrading_in_order r (g.ordered (t - 1)) p.out; on_line = refl }
+  due_downgrade p = let k = r.track in record { low = p.low; high = p.high; next = downgrade_line k.standing; leads = downgrade_leads (t - 1) k.prev k.curr k.d k.x k.place k.role k.standing p.right; account = downgrade_account k.standing r.account; ordered = downgrading_in_order r (g.ordered (t - 1)) p.out; stands = refl }
 
   pub due_leave : (w : Right) → Holding s w t → Due s t (leaving r)
-  due_leave w p = let k = r.track in record { low = p.low; high = p.high; next = leave_line k.role k.standing; leads = leave_leads (t - 1) k.prev k.curr k.d k.x k.place k.role k.standing w p.right; account = leave_account k.role k.standing r.account; ordered = leaving_in_order r w (g.ordered (t - 1)) p.out; on_line = refl }
+  due_leave w p = let k = r.track in record { low = p.low; high = p.high; next = leave_line k.role k.standing; leads = leave_leads (t - 1) k.prev k.curr k.d k.x k.place k.role k.standing w p.right; account = leave_account k.role k.standing r.account; ordered = leaving_in_order r w (g.ordered (t - 1)) p.out; stands = refl }

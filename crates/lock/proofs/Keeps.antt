@@ -3,7 +3,7 @@ use Rattle.std.proofs.Common.{◌≡◌, ℕ, suc, ◌+◌, ◌≤◌, ◌≢◌
 use Rattle.std.proofs.lemmas.Bool.{cases_eq, cases_lt, eq-eqb, ne_eqb, lt-ltb, le-ltb}
 use Rattle.lines.specs.declared.deed.Deed.{Deed}
 use Rattle.lines.specs.declared.place.Line.{Line}
-use Rattle.lines.specs.declared.place.Line.TheVariants.{L0p1, L0p2, L1, L2, L3, L4, L6, L7, L8, L9, L10, L11, L12, L13, L14, L15, L16, L16p1, L17, L18, L19, L20, L21, L22, L22p1, L22p2, L23, L25p1, L25p2, L25p3, L26p1, L27p1, L27p2, L27p3, L27p4, L27p5, Down28p1, Down28p2, L28p1, L28p2, L29p2, L32p1}
+use Rattle.lines.specs.declared.place.Line.TheVariants.{L0p1, L0p2, L6, L10, L11, L12, L13, L14, L16p1, L19, L20, L21, L22, L22p1, L22p2, L27p1, L27p3, L27p5, L32p1}
 use Rattle.lines.specs.declared.place.Place.{Place}
 use Rattle.lines.specs.declared.place.Role.{Role}
 use Rattle.lines.specs.declared.place.Standing.{Standing}
@@ -29,176 +29,38 @@ module _ (C D G X P U V i prev curr d x : ℕ) (p : Place) (s : Standing) where
       Before l (seen i (track o)) → (seen i (track o)).counted ≤ C → ((seen i (track o)).upgraded ≡ 0 → (seen i (track o)).counted ≡ 1 → two U + 1 ≤ C) → (get_or ws 0 0 ≡ suc i → get_or ws 1 0 ≢ suc i) → OneTask (seen_cells cells ws) (seen i (track o)) →
       Keeps (deed l o) (seen_cells cells ws) (seen i (track o)) (seen_cells (cells_after (deed l o) cells) (waiting_after (deed l o) (suc i) ws)) (seen i (settle l (track o) (finds (deed l o) (suc i) cells ws)))
 
-  keeps_line_0p1 : (o : Role) (ws : List ℕ) → Kept L0p1 o ws
-  keeps_line_0p1 o [] f n h v m = grind arith
-  keeps_line_0p1 o (y ∷ ys) f n h v m = grind arith
-
-  keeps_line_0p2 : (o : Role) (ws : List ℕ) → Kept L0p2 o ws
-  keeps_line_0p2 o [] f n h v m = grind arith
-  keeps_line_0p2 o (y ∷ ys) f n h v m = elim (cases_eq y (suc i)) [ inl same ↦ rw (eq-eqb y (suc i) same) (grind arith) | inr other ↦ rw (ne_eqb y (suc i) other) (grind arith) ]
-
-  keeps_line_1 : (o : Role) (ws : List ℕ) → Kept L1 o ws
-  keeps_line_1 o ws f n h v m = grind arith
-
-  keeps_line_2 : (o : Role) (ws : List ℕ) → Kept L2 o ws
-  keeps_line_2 o ws f n h v m = grind arith
-
-  keeps_line_3 : (o : Role) (ws : List ℕ) → Kept L3 o ws
-  keeps_line_3 o ws f n h v m = grind arith
-
-  keeps_line_4 : (o : Role) (ws : List ℕ) → Kept L4 o ws
-  keeps_line_4 o ws f n h v m = grind arith
-
-  keeps_line_6 : (o : Role) (ws : List ℕ) → Kept L6 o ws
-  keeps_line_6 o ws f n h v m = elim (cases_eq P 1) [ inl same ↦ rw (eq-eqb P 1 same) (grind arith) | inr other ↦ rw (ne_eqb P 1 other) (grind arith) ]
-
-  keeps_line_7 : (o : Role) (ws : List ℕ) → Kept L7 o ws
-  keeps_line_7 o ws f n h v m = grind arith
-
-  keeps_line_8 : (o : Role) (ws : List ℕ) → Kept L8 o ws
-  keeps_line_8 o ws f n h v m = grind arith
-
-  keeps_line_9 : (o : Role) (ws : List ℕ) → Kept L9 o ws
-  keeps_line_9 o ws f n h v m = grind arith
-
-  keeps_line_10 : (o : Role) (ws : List ℕ) → Kept L10 o ws
-  keeps_line_10 o ws f n h v m = elim (cases_eq x 0) [ inl same ↦ rw (eq-eqb x 0 same) (grind arith) | inr other ↦ rw (ne_eqb x 0 other) (grind arith) ]
-
-  keeps_line_11 : (o : Role) (ws : List ℕ) → Kept L11 o ws
-  keeps_line_11 o ws f n h v m = elim (cases_eq X x) [ inl same ↦ rw (eq-eqb X x same) (grind arith) | inr other ↦ rw (ne_eqb X x other) (grind arith) ]
-
-  keeps_line_12 : (o : Role) (ws : List ℕ) → Kept L12 o ws
-  keeps_line_12 o ws f n h v m = elim (cases_eq P 1) [ inl same ↦ rw (eq-eqb P 1 same) (grind arith) | inr other ↦ rw (ne_eqb P 1 other) (grind arith) ]
-
-  keeps_line_13 : (o : Role) (ws : List ℕ) → Kept L13 o ws
-  keeps_line_13 o ws f n h v m = elim (cases_eq C 0) [ inl same ↦ rw (eq-eqb C 0 same) (grind arith) | inr other ↦ rw (ne_eqb C 0 other) (grind arith) ]
-
+  -- three lines by themselves, at which the proof stops where a lock of examples/unsound does them wrong
   keeps_line_14 : (o : Role) (ws : List ℕ) → Kept L14 o ws
   keeps_line_14 o ws f n h v m = elim (cases_eq X (suc i)) [ inl same ↦ rw (eq-eqb X (suc i) same) (grind arith) | inr other ↦ rw (ne_eqb X (suc i) other) (grind arith) ]
-
-  keeps_line_15 : (o : Role) (ws : List ℕ) → Kept L15 o ws
-  keeps_line_15 o ws f n h v m = grind arith
-
-  keeps_line_16 : (o : Role) (ws : List ℕ) → Kept L16 o ws
-  keeps_line_16 o ws f n h v m = grind arith
 
   keeps_line_16p1 : (o : Role) (ws : List ℕ) → Kept L16p1 o ws
   keeps_line_16p1 o ws f n h v m = elim (cases_eq U 1) [ inl same ↦ rw (eq-eqb U 1 same) (grind arith) | inr other ↦ rw (ne_eqb U 1 other) (grind arith) ]
 
-  keeps_line_17 : (o : Role) (ws : List ℕ) → Kept L17 o ws
-  keeps_line_17 o ws f n h v m = grind arith
-
-  keeps_line_18 : (o : Role) (ws : List ℕ) → Kept L18 o ws
-  keeps_line_18 o ws f n h v m = grind arith
-
-  keeps_line_19 : (o : Role) (ws : List ℕ) → Kept L19 o ws
-  keeps_line_19 o ws f n h v m = elim (cases_eq x 0) [ inl same ↦ rw (eq-eqb x 0 same) (grind arith) | inr other ↦ rw (ne_eqb x 0 other) (grind arith) ]
-
-  keeps_line_20 : (o : Role) (ws : List ℕ) → Kept L20 o ws
-  keeps_line_20 o ws f n h v m = elim (cases_eq X x) [ inl same ↦ rw (eq-eqb X x same) (grind arith) | inr other ↦ rw (ne_eqb X x other) (grind arith) ]
-
-  keeps_line_21 : (o : Role) (ws : List ℕ) → Kept L21 o ws
-  keeps_line_21 o ws f n h v m = elim (cases_eq X 0) [ inl same ↦ rw (eq-eqb X 0 same) (grind arith) | inr other ↦ rw (ne_eqb X 0 other) (grind arith) ]
-
-  keeps_line_22 : (o : Role) (ws : List ℕ) → Kept L22 o ws
-  keeps_line_22 o ws f n h v m = elim (cases_eq G d) [ inl same ↦ rw (eq-eqb G d same) (grind arith) | inr other ↦ rw (ne_eqb G d other) (grind arith) ]
-
-  keeps_line_22p1 : (o : Role) (ws : List ℕ) → Kept L22p1 o ws
-  keeps_line_22p1 o ws f n h v m = elim (cases_eq U 2) [ inl same ↦ rw (eq-eqb U 2 same) (grind arith) | inr other ↦ rw (ne_eqb U 2 other) (grind arith) ]
-
-  keeps_line_22p2 : (o : Role) (ws : List ℕ) → Kept L22p2 o ws
-  keeps_line_22p2 o ws f n h v m = elim (cases_eq V 0) [ inl same ↦ rw (eq-eqb V 0 same) (grind arith) | inr other ↦ rw (ne_eqb V 0 other) (grind arith) ]
-
-  keeps_line_23 : (o : Role) (ws : List ℕ) → Kept L23 o ws
-  keeps_line_23 o ws f n h v m = grind arith
-
-  keeps_line_25p1 : (o : Role) (ws : List ℕ) → Kept L25p1 o ws
-  keeps_line_25p1 o ws f n h v m = grind arith
-
-  keeps_line_25p2 : (o : Role) (ws : List ℕ) → Kept L25p2 o ws
-  keeps_line_25p2 o ws f n h v m = grind arith
-
-  keeps_line_25p3 : (o : Role) (ws : List ℕ) → Kept L25p3 o ws
-  keeps_line_25p3 o ws f n h v m = grind arith
-
-  keeps_line_26p1 : (o : Role) (ws : List ℕ) → Kept L26p1 o ws
-  keeps_line_26p1 o ws f n h v m = grind arith
-
-  keeps_line_27p1 : (o : Role) (ws : List ℕ) → Kept L27p1 o ws
-  keeps_line_27p1 o ws f n h v m = elim (cases_lt 1 C) [ inl more ↦ rw (lt-ltb 1 C more) (grind arith) | inr few ↦ rw (le-ltb 1 C few) (grind arith) ]
-
-  keeps_line_27p2 : (o : Role) (ws : List ℕ) → Kept L27p2 o ws
-  keeps_line_27p2 o ws f n h v m = grind arith
-
   keeps_line_27p3 : (o : Role) (ws : List ℕ) → Kept L27p3 o ws
   keeps_line_27p3 o ws f n h v m = elim (cases_lt 1 C) [ inl more ↦ rw (lt-ltb 1 C more) (grind arith) | inr few ↦ rw (le-ltb 1 C few) (grind arith) ]
 
-  keeps_line_27p4 : (o : Role) (ws : List ℕ) → Kept L27p4 o ws
-  keeps_line_27p4 o ws f n h v m = grind arith
-
-  keeps_line_27p5 : (o : Role) (ws : List ℕ) → Kept L27p5 o ws
-  keeps_line_27p5 o ws f n h v m = elim (cases_eq U 1) [ inl same ↦ rw (eq-eqb U 1 same) (grind arith) | inr other ↦ rw (ne_eqb U 1 other) (grind arith) ]
-
-  keeps_down_28p1 : (o : Role) (ws : List ℕ) → Kept Down28p1 o ws
-  keeps_down_28p1 o ws f n h v m = grind arith
-
-  keeps_down_28p2 : (o : Role) (ws : List ℕ) → Kept Down28p2 o ws
-  keeps_down_28p2 o ws f n h v m = grind arith
-
-  keeps_line_28p1 : (o : Role) (ws : List ℕ) → Kept L28p1 o ws
-  keeps_line_28p1 o ws f n h v m = grind arith
-
-  keeps_line_28p2 : (o : Role) (ws : List ℕ) → Kept L28p2 o ws
-  keeps_line_28p2 o ws f n h v m = grind arith
-
-  keeps_line_29p2 : (o : Role) (ws : List ℕ) → Kept L29p2 o ws
-  keeps_line_29p2 o ws f n h v m = grind arith
-
-  keeps_line_32p1 : (o : Role) (ws : List ℕ) → Kept L32p1 o ws
-  keeps_line_32p1 o [] f n h v m = grind arith
-  keeps_line_32p1 o (y ∷ []) f n h v m = grind arith
-  keeps_line_32p1 o (y ∷ z ∷ zs) f n h v m = grind arith
-
   pub kept : (l : Line) (o : Role) (ws : List ℕ) → Kept l o ws
-  kept L0p1 = keeps_line_0p1
-  kept L0p2 = keeps_line_0p2
-  kept L1 = keeps_line_1
-  kept L2 = keeps_line_2
-  kept L3 = keeps_line_3
-  kept L4 = keeps_line_4
-  kept L6 = keeps_line_6
-  kept L7 = keeps_line_7
-  kept L8 = keeps_line_8
-  kept L9 = keeps_line_9
-  kept L10 = keeps_line_10
-  kept L11 = keeps_line_11
-  kept L12 = keeps_line_12
-  kept L13 = keeps_line_13
-  kept L14 = keeps_line_14
-  kept L15 = keeps_line_15
-  kept L16 = keeps_line_16
-  kept L16p1 = keeps_line_16p1
-  kept L17 = keeps_line_17
-  kept L18 = keeps_line_18
-  kept L19 = keeps_line_19
-  kept L20 = keeps_line_20
-  kept L21 = keeps_line_21
-  kept L22 = keeps_line_22
-  kept L22p1 = keeps_line_22p1
-  kept L22p2 = keeps_line_22p2
-  kept L23 = keeps_line_23
-  kept L25p1 = keeps_line_25p1
-  kept L25p2 = keeps_line_25p2
-  kept L25p3 = keeps_line_25p3
-  kept L26p1 = keeps_line_26p1
-  kept L27p1 = keeps_line_27p1
-  kept L27p2 = keeps_line_27p2
-  kept L27p3 = keeps_line_27p3
-  kept L27p4 = keeps_line_27p4
-  kept L27p5 = keeps_line_27p5
-  kept Down28p1 = keeps_down_28p1
-  kept Down28p2 = keeps_down_28p2
-  kept L28p1 = keeps_line_28p1
-  kept L28p2 = keeps_line_28p2
-  kept L29p2 = keeps_line_29p2
-  kept L32p1 = keeps_line_32p1
+  kept L0p1 o [] f n h v m = grind arith
+  kept L0p1 o (y ∷ ys) f n h v m = grind arith
+  kept L0p2 o [] f n h v m = grind arith
+  kept L0p2 o (y ∷ ys) f n h v m = elim (cases_eq y (suc i)) [ inl same ↦ rw (eq-eqb y (suc i) same) (grind arith) | inr other ↦ rw (ne_eqb y (suc i) other) (grind arith) ]
+  kept L6 o ws f n h v m = elim (cases_eq P 1) [ inl same ↦ rw (eq-eqb P 1 same) (grind arith) | inr other ↦ rw (ne_eqb P 1 other) (grind arith) ]
+  kept L10 o ws f n h v m = elim (cases_eq x 0) [ inl same ↦ rw (eq-eqb x 0 same) (grind arith) | inr other ↦ rw (ne_eqb x 0 other) (grind arith) ]
+  kept L11 o ws f n h v m = elim (cases_eq X x) [ inl same ↦ rw (eq-eqb X x same) (grind arith) | inr other ↦ rw (ne_eqb X x other) (grind arith) ]
+  kept L12 o ws f n h v m = elim (cases_eq P 1) [ inl same ↦ rw (eq-eqb P 1 same) (grind arith) | inr other ↦ rw (ne_eqb P 1 other) (grind arith) ]
+  kept L13 o ws f n h v m = elim (cases_eq C 0) [ inl same ↦ rw (eq-eqb C 0 same) (grind arith) | inr other ↦ rw (ne_eqb C 0 other) (grind arith) ]
+  kept L14 o ws f n h v m = keeps_line_14 o ws f n h v m
+  kept L16p1 o ws f n h v m = keeps_line_16p1 o ws f n h v m
+  kept L19 o ws f n h v m = elim (cases_eq x 0) [ inl same ↦ rw (eq-eqb x 0 same) (grind arith) | inr other ↦ rw (ne_eqb x 0 other) (grind arith) ]
+  kept L20 o ws f n h v m = elim (cases_eq X x) [ inl same ↦ rw (eq-eqb X x same) (grind arith) | inr other ↦ rw (ne_eqb X x other) (grind arith) ]
+  kept L21 o ws f n h v m = elim (cases_eq X 0) [ inl same ↦ rw (eq-eqb X 0 same) (grind arith) | inr other ↦ rw (ne_eqb X 0 other) (grind arith) ]
+  kept L22 o ws f n h v m = elim (cases_eq G d) [ inl same ↦ rw (eq-eqb G d same) (grind arith) | inr other ↦ rw (ne_eqb G d other) (grind arith) ]
+  kept L22p1 o ws f n h v m = elim (cases_eq U 2) [ inl same ↦ rw (eq-eqb U 2 same) (grind arith) | inr other ↦ rw (ne_eqb U 2 other) (grind arith) ]
+  kept L22p2 o ws f n h v m = elim (cases_eq V 0) [ inl same ↦ rw (eq-eqb V 0 same) (grind arith) | inr other ↦ rw (ne_eqb V 0 other) (grind arith) ]
+  kept L27p1 o ws f n h v m = elim (cases_lt 1 C) [ inl more ↦ rw (lt-ltb 1 C more) (grind arith) | inr few ↦ rw (le-ltb 1 C few) (grind arith) ]
+  kept L27p3 o ws f n h v m = keeps_line_27p3 o ws f n h v m
+  kept L27p5 o ws f n h v m = elim (cases_eq U 1) [ inl same ↦ rw (eq-eqb U 1 same) (grind arith) | inr other ↦ rw (ne_eqb U 1 other) (grind arith) ]
+  kept L32p1 o [] f n h v m = grind arith
+  kept L32p1 o (y ∷ []) f n h v m = grind arith
+  kept L32p1 o (y ∷ z ∷ zs) f n h v m = grind arith
+  kept l o ws f n h v m = grind arith

@@ -1,8 +1,10 @@
 -- The records of the tasks are the first of an array, and each is in order.
-use Rattle.std.proofs.Common.{◌≡◌, ℕ, zero, suc, ◌<◌, Bool, true, List, [], ◌∷◌, length, take, get_or, set, refl, ap, arith}
+use Rattle.std.proofs.Common.{◌≡◌, ℕ, zero, suc, Bool, true, List, [], ◌∷◌, take, get_or, set, refl, ap}
 use Rattle.calls.specs.declared.record.Record.{Record}
 use Rattle.std.specs.List.{list_all}
-use Rattle.std.proofs.lemmas.Bool.{and_parts, and_from}
+use Rattle.std.proofs.lemmas.Bool.{and_parts}
+use Rattle.std.proofs.lemmas.List.Elements.{All-set}
+use Rattle.std.proofs.lemmas.List.Sums.{AllPass-from_list_all, list_all-from_AllPass}
 
 pub first_set : (n : ℕ) (rs : List Record) (i : ℕ) (r : Record) → take n (set rs i r) ≡ set (take n rs) i r
 first_set zero rs i r = refl
@@ -11,11 +13,9 @@ first_set (suc n) (x ∷ rs) zero r = refl
 first_set (suc n) (x ∷ rs) (suc i) r = ap (λ ys. x ∷ ys) (first_set n rs i r)
 
 pub pass_set : (p : Record → Bool) (rs : List Record) (i : ℕ) (r : Record) → list_all p rs ≡ true → p r ≡ true → list_all p (set rs i r) ≡ true
-pass_set p [] i r h k = h
-pass_set p (x ∷ rs) zero r h k = and_from (p r) (list_all p rs) k (and_parts (p x) (list_all p rs) h).1
-pass_set p (x ∷ rs) (suc i) r h k = let parts = and_parts (p x) (list_all p rs) h in and_from (p x) (list_all p (set rs i r)) parts.0 (pass_set p rs i r parts.1 k)
+pass_set p rs i r h k = list_all-from_AllPass p (set rs i r) (All-set (λ x. p x ≡ true) rs i r k (AllPass-from_list_all p rs h))
 
-pub pass_at : (p : Record → Bool) (rs : List Record) (i : ℕ) (d : Record) → list_all p rs ≡ true → i < length rs → p (get_or rs i d) ≡ true
-pass_at p [] i d h few = absurd (omega (arith, few))
-pass_at p (x ∷ rs) zero d h few = (and_parts (p x) (list_all p rs) h).0
-pass_at p (x ∷ rs) (suc i) d h few = pass_at p rs i d (and_parts (p x) (list_all p rs) h).1 (omega (arith, few))
+pub pass_at : {A : Type 0} (p : A → Bool) (xs : List A) (i : ℕ) (d : A) → p d ≡ true → list_all p xs ≡ true → p (get_or xs i d) ≡ true
+pass_at p [] i d none h = none
+pass_at p (x ∷ xs) zero d none h = (and_parts (p x) (list_all p xs) h).0
+pass_at p (x ∷ xs) (suc i) d none h = pass_at p xs i d none (and_parts (p x) (list_all p xs) h).1

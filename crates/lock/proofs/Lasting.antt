@@ -1,5 +1,5 @@
 -- The facts last: each call keeps them, whatever its arguments.
-use Rattle.std.proofs.Common.{◌≡◌, ℕ, zero, suc, pred, ◌-◌, ◌<◌, Bool, true, cond, List, [], ◌∷◌, length, get_or, set, Option, sym, refl, ap, ◌∙◌, subst, arith}
+use Rattle.std.proofs.Common.{◌≡◌, ℕ, suc, pred, ◌-◌, ◌<◌, Bool, true, cond, List, [], ◌∷◌, length, get_or, set, Option, sym, refl, ap, ◌∙◌, subst, arith}
 use Rattle.std.proofs.ByRecursion.{All-weaker}
 use Rattle.std.proofs.lemmas.List.{length-set}
 use Rattle.std.proofs.lemmas.List.Sums.{sum_by-cons}
@@ -11,12 +11,13 @@ use Rattle.lines.specs.Deeds.{cells_after, finds, waiting_after}
 use Rattle.lines.specs.Lines.{deed_of, next_deed, settle}
 use Rattle.calls.specs.declared.record.Record.{Record}
 use Rattle.calls.specs.Census.{tasks_that}
+use Rattle.calls.specs.Questions.{advance_refusal_at}
 use Rattle.calls.specs.Records.{in_order, settled, with_out}
 use Rattle.calls.specs.States.{State, record_of, with_record}
 use Rattle.calls.specs.Steps.{after_deed}
 use Rattle.calls.proofs.Sound.{settled_in_order}
 use Rattle.lock.proofs.Facts.{Before, OneTask, seen, seen_cells}
-use Rattle.lock.proofs.Holds.{Holds, Waits, at, line_keeps, seen_at}
+use Rattle.lock.proofs.Holds.{Holds, Waits, at, each_set, line_keeps, seen_at}
 use Rattle.lock.proofs.Judged.{Due, Lawful}
 use Rattle.lock.proofs.Opened.{seven_of}
 
@@ -29,14 +30,6 @@ line_kept cs ws rs i h l b r is g =
     let P : List ℕ → Type 0 = λ xs. r.track ≡ settle l (at rs i).track (finds (deed_of l (suc i) (at rs i).track) (suc i) xs ws) → Holds xs ws rs →
     Holds (cells_after (deed_of l (suc i) (at rs i).track) xs) (waiting_after (deed_of l (suc i) (at rs i).track) (suc i) ws) (set rs i r) in
     subst P (sym (seven_of cs g.seven)) (λ is' g'. line_keeps l (get_or cs 0 0) (get_or cs 1 0) (get_or cs 2 0) (get_or cs 3 0) (get_or cs 4 0) (get_or cs 5 0) (get_or cs 6 0) ws rs i h r is' b g') is g
-
--- every record is in order where one is replaced by one that is
-ordered_set : (rs : List Record) (i : ℕ) (r : Record) → ((j : ℕ) → in_order (at rs j) ≡ true) → in_order r ≡ true → (j : ℕ) → in_order (at (set rs i r) j) ≡ true
-ordered_set [] i r h k j = h j
-ordered_set (x ∷ rs) zero r h k zero = k
-ordered_set (x ∷ rs) zero r h k (suc j) = h (suc j)
-ordered_set (x ∷ rs) (suc i) r h k zero = h 0
-ordered_set (x ∷ rs) (suc i) r h k (suc j) = ordered_set rs i r (λ n. h (suc n)) k j
 
 pub line_lawful : (s : State) (t : ℕ) (r : Record) (share : ℕ) → Lawful s → Due s t r → Lawful (after_deed t r (next_deed t r.track) share s)
 line_lawful s t r share g d =
@@ -56,7 +49,7 @@ line_lawful s t r share g d =
       opened = g.opened;
       some = omega (arith, length-set rs i y, g.some);
       few = omega (arith, length-set rs i y, g.few);
-      ordered = ordered_set rs i y g.ordered (settled_in_order r (finds due t s.cells s.waiting) share d.ordered d.on_line);
+      ordered = each_set (λ j x. in_order x ≡ true) rs i y (settled_in_order r (finds due t s.cells s.waiting) share d.ordered (ap advance_refusal_at d.stands)) g.ordered;
       holds = subst (λ p. Holds (cells_after p s.cells) (waiting_after p t s.waiting) (set rs i y)) (sym same) kept;
     }
 
@@ -92,11 +85,7 @@ holds_same cs ws rs qs k g =
 
 -- what f tells of the records is as it was, where one is replaced by one of which it tells the same
 pub each_same : {A : Type 0} (f : Record → A) (rs : List Record) (i : ℕ) (r : Record) → f r ≡ f (at rs i) → (j : ℕ) → f (at (set rs i r) j) ≡ f (at rs j)
-each_same f [] i r e j = refl
-each_same f (x ∷ rs) zero r e zero = e
-each_same f (x ∷ rs) zero r e (suc j) = refl
-each_same f (x ∷ rs) (suc i) r e zero = refl
-each_same f (x ∷ rs) (suc i) r e (suc j) = each_same f rs i r e j
+each_same f rs i r e = each_set (λ j x. f x ≡ f (at rs j)) rs i r e (λ j. refl)
 
 pub track_same : (rs : List Record) (i : ℕ) (r : Record) → r.track ≡ (at rs i).track → SameTracks rs (set rs i r)
 track_same rs i r e = record { count = length-set rs i r; each = each_same (λ (x : Record). x.track) rs i r e }
@@ -110,6 +99,6 @@ pass_lawful s t o g k =
       opened = g.opened;
       some = omega (arith, length-set s.records i r, g.some);
       few = omega (arith, length-set s.records i r, g.few);
-      ordered = ordered_set s.records i r g.ordered k;
+      ordered = each_set (λ j x. in_order x ≡ true) s.records i r k g.ordered;
       holds = holds_same s.cells s.waiting s.records _ (track_same s.records i r refl) g.holds;
     }

@@ -7,6 +7,7 @@ pub mod Holds
 pub mod Judged
 pub mod Allowed
 pub mod Lasting
+pub mod Asked
 pub mod Meant
 pub mod Runs
 pub mod SoundRuns

@@ -1,8 +1,10 @@
 -- A lock that was opened.
-use Rattle.std.proofs.Common.{ltb, ◌&&◌, ◌≡◌, ℕ, zero, suc, ◌+◌, ◌<◌, ◌≤◌, Bool, true, List, [], ◌∷◌, ◌++◌, map, length, get_or, take, set, replicate, None, Ok, Result, Option, sym, refl, ap, ◌∙◌, subst, arith}
+use Rattle.std.proofs.Common.{ltb, ◌&&◌, ◌≡◌, ℕ, ◌+◌, ◌<◌, ◌≤◌, true, List, [], ◌∷◌, ◌++◌, map, length, get_or, take, set, replicate, None, Ok, Result, Option, sym, refl, ap, ◌∙◌, subst, arith}
 use Rattle.std.proofs.lemmas.List.{length-set, take_more_set, map_more, take_all}
 use Rattle.std.specs.List.{list_all}
-use Rattle.std.proofs.lemmas.Bool.{and_from, lt-ltb}
+use Rattle.std.proofs.lemmas.Bool.{lt-ltb}
+use Rattle.std.proofs.lemmas.List.Elements.{All-replicate}
+use Rattle.std.proofs.lemmas.List.Sums.{list_all-from_AllPass}
 use Rattle.memory.specs.declared.operation.Operation.{Operation}
 use Rattle.memory.specs.Calls.{Doing, Kept}
 use Rattle.memory.specs.Operations.{after}
@@ -26,13 +28,9 @@ pub record Enlisted (all : List Record) (roles : List ℕ) (i : ℕ) : Type 0 wh
   pub ordered : list_all in_order all ≡ true
   pub first : take i all ≡ map enlisted (take i roles)
 
-pass_replicate : (p : Record → Bool) (n : ℕ) (r : Record) → p r ≡ true → list_all p (replicate n r) ≡ true
-pass_replicate p zero r h = refl
-pass_replicate p (suc n) r h = and_from (p r) (list_all p (replicate n r)) h (pass_replicate p n r h)
-
 -- records of which none ever began
 pub fresh_all : (n : ℕ) (r : Record) → r ≡ fresh Reader → list_all in_order (replicate n r) ≡ true
-fresh_all n r new = pass_replicate in_order n r (ap in_order new ∙ fresh_in_order Reader)
+fresh_all n r new = list_all-from_AllPass in_order (replicate n r) (All-replicate (λ x. in_order x ≡ true) n r (ap in_order new ∙ fresh_in_order Reader))
 
 pub enlist_more : (all : List Record) (roles : List ℕ) (i : ℕ) (r : Record) → Enlisted all roles i → i < length roles → length roles ≤ 64 → r ≡ enlisted (get_or roles i 0) → Enlisted (set all i r) roles (i + 1)
 enlist_more all roles i r e less few new = let kept = ap in_order new ∙ fresh_in_order (role_of (get_or roles i 0)) in record {
@@ -57,15 +55,8 @@ afters (op ∷ ops) xs = afters ops (after op xs)
 
 -- seven numbers are those in the seven places
 pub seven_of : (xs : List ℕ) → length xs ≡ 7 → xs ≡ get_or xs 0 0 ∷ get_or xs 1 0 ∷ get_or xs 2 0 ∷ get_or xs 3 0 ∷ get_or xs 4 0 ∷ get_or xs 5 0 ∷ get_or xs 6 0 ∷ []
-seven_of [] e = absurd (omega arith)
-seven_of (a ∷ []) e = absurd (omega arith)
-seven_of (a ∷ b ∷ []) e = absurd (omega arith)
-seven_of (a ∷ b ∷ c ∷ []) e = absurd (omega arith)
-seven_of (a ∷ b ∷ c ∷ d ∷ []) e = absurd (omega arith)
-seven_of (a ∷ b ∷ c ∷ d ∷ f ∷ []) e = absurd (omega arith)
-seven_of (a ∷ b ∷ c ∷ d ∷ f ∷ g ∷ []) e = absurd (omega arith)
 seven_of (a ∷ b ∷ c ∷ d ∷ f ∷ g ∷ h ∷ []) e = refl
-seven_of (a ∷ b ∷ c ∷ d ∷ f ∷ g ∷ h ∷ k ∷ xs) e = absurd (omega arith)
+seven_of xs e = absurd (omega arith)
 
 pub seven_written : (xs : List ℕ) → length xs ≡ 7 → afters opening_writes xs ≡ opening_cells
 seven_written xs e = ap (afters opening_writes) (seven_of xs e)

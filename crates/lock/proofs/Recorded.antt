@@ -29,8 +29,7 @@ says_of o n u g = record { out = o; begins = n; upgrades = u; downgrades = g }
 -- a line of a task that is in an attempt leaves all this
 pub arrived_told : (p : Place) (o : Option Right) (a : Account) → says_of o ((arrived p a).finished + unfinished p) (arrived p a).u (arrived p a).g ≡ says_of o (a.finished + 1) a.u a.g
 arrived_told Rest o a = ap (λ n. says_of o n a.u a.g) (omega arith)
-arrived_told Inside o a = refl
-arrived_told (Next l) o a = refl
+arrived_told p o a = refl
 
 pub cond_same : {A : Type 0} (b : Bool) (x : A) → x ≡ cond b x x
 cond_same true x = refl
@@ -40,8 +39,7 @@ cond_same false x = refl
 
 pub never : (p : Place) → comes_to_rest p p ≡ false
 never Rest = refl
-never Inside = refl
-never (Next l) = refl
+never p = refl
 
 pub stays : (p q : Place) (a b : Account) → q ≡ p → b ≡ a → (b.finished ≡ a.finished + cond (comes_to_rest p q) 1 0) × (b.total ≡ a.total + cond (comes_to_rest p q) b.cost 0)
 stays p q a b e k = rw (e, k, never p) (omega arith, omega arith)
@@ -52,48 +50,32 @@ quiet_finishes r q e k = stays r.track.place q.track.place r.account q.account (
 -- a task at this place is in an attempt
 abbrev pub Away : Place → Type 0
 Away Rest = ⊥
-Away Inside = Unit {0}
-Away (Next l) = Unit {0}
+Away p = Unit {0}
 
 pub moves : (p q : Place) (a b : Account) → Away p → b.finished ≡ a.finished → b.total ≡ a.total → ((arrived q b).finished ≡ a.finished + cond (comes_to_rest p q) 1 0) × ((arrived q b).total ≡ a.total + cond (comes_to_rest p q) (arrived q b).cost 0)
 moves Rest q a b h e k = absurd h
-moves Inside Rest a b h e k = (ap (λ n. n + 1) e, ap (λ n. n + b.cost) k)
-moves Inside Inside a b h e k = (omega arith, omega arith)
-moves Inside (Next l) a b h e k = (omega arith, omega arith)
-moves (Next l) Rest a b h e k = (ap (λ n. n + 1) e, ap (λ n. n + b.cost) k)
-moves (Next l) Inside a b h e k = (omega arith, omega arith)
-moves (Next l) (Next j) a b h e k = (omega arith, omega arith)
-
-pub some_none : {A : Type 0} (x : A) → ◌≡◌ {A = Option A} (Some x) None → ⊥
-some_none x h = let z : ◌≡◌ {A = ℕ} 0 1 = cc in omega arith
-
-pub none_some : {A : Type 0} (x : A) → ◌≡◌ {A = Option A} None (Some x) → ⊥
-none_some x h = let z : ◌≡◌ {A = ℕ} 0 1 = cc in omega arith
+moves p Rest a b h e k = (ap (λ n. n + 1) e, ap (λ n. n + b.cost) k)
+moves p q a b h e k = (omega arith, omega arith)
 
 -- the first line of an attempt ends none
 pub begins : (p : Place) (o : Role) (k : Track) (f : Found) (n : ℕ) (a b : Account) → begin_refusal_at p n ≡ None → b.finished ≡ a.finished → b.total ≡ a.total →
     ((arrived (settle (begin_line o) k f).place b).finished ≡ a.finished + cond (comes_to_rest p (settle (begin_line o) k f).place) 1 0) × ((arrived (settle (begin_line o) k f).place b).total ≡ a.total + cond (comes_to_rest p (settle (begin_line o) k f).place) (arrived (settle (begin_line o) k f).place b).cost 0)
 begins Rest Reader k f n a b h e j = (omega arith, omega arith)
 begins Rest Writer k f n a b h e j = (omega arith, omega arith)
-begins Inside o k f n a b h e j = absurd (some_none _ h)
-begins (Next l) o k f n a b h e j = absurd (some_none _ h)
+begins p o k f n a b h e j = cc
 
 pub away_unfinished : (p : Place) → Away p → unfinished p ≡ 1
 away_unfinished Rest h = absurd h
-away_unfinished Inside h = refl
-away_unfinished (Next l) h = refl
+away_unfinished p h = refl
 
 pub rests_before : (p : Place) (n : ℕ) → begin_refusal_at p n ≡ None → unfinished p ≡ 0
 rests_before Rest n h = refl
-rests_before Inside n h = absurd (some_none _ h)
-rests_before (Next l) n h = absurd (some_none _ h)
+rests_before p n h = cc
 
 pub on_line_away : (p : Place) → advance_refusal_at p ≡ None → Away p
-on_line_away Rest h = some_none _ h
-on_line_away Inside h = absurd (some_none _ h)
 on_line_away (Next l) h = tt
+on_line_away p h = cc
 
 pub right_away : (p : Place) (o : Role) (s : Standing) (w : Right) → right_at p o s ≡ Some w → Away p
-right_away Rest o s w h = none_some _ h
 right_away Inside o s w h = tt
-right_away (Next l) o s w h = absurd (none_some _ h)
+right_away p o s w h = cc

@@ -11,7 +11,7 @@ use Rattle.lines.specs.Classes.{has_upgraded, in_section, is_counted, is_upgradi
 use Rattle.lines.specs.Lines.{next_deed}
 use Rattle.lines.specs.Rights.{right_at, right_of}
 use Rattle.calls.specs.States.{State, record_of}
-use Rattle.calls.specs.Steps.{Answer, Call, Calls, Carried, Verdict, after_deed, at_once, done, judge, line, lined, no, refuse}
+use Rattle.calls.specs.Steps.{Answer, Call, Calls, Carried, LineShares, Shares, Verdict, after_deed, at_once, done, judge, line, lined, no, refuse}
 use Rattle.calls.proofs.Obeyed.{call_same}
 use Rattle.lock.specs.Promises.{HasRight, IsOwn}
 use Rattle.lock.specs.Runs.{Made, RunWhile}
@@ -29,29 +29,29 @@ pub record Able (limit : ℕ) (s : State) : Type 0 where
   pub two : 2 ≤ limit
 
 -- What the questions came to is what happens: a refusal leaves all as it was, a line that is due is done, an answer is given
-abbrev pub Obeyed : Verdict → State → Answer → State → Type 0
-Obeyed (refuse e) z a y = (a ≡ no e) × (y ≡ z)
-Obeyed (line t r) z a y = (a ≡ done) × ((share : ℕ) × (y ≡ after_deed t r (next_deed t r.track) share z))
-Obeyed (at_once b x) z a y = (a ≡ b) × (y ≡ x)
-
--- a call is obeyed or meets a question of its own, and the facts hold after it
-pub record CallKept (v : Verdict) (s : State) (a : Answer) (z : State) : Type 0 where
-  pub own : IsOwn a
-  pub obeyed : Obeyed v s a z
-  pub lawful : Lawful z
+abbrev pub Obeyed : {M : Type 0} → Doing M → Verdict → State → M → Answer → State → M → Type 0
+Obeyed does (refuse e) s m a z n = (a ≡ no e) × (z ≡ s) × (n ≡ m)
+Obeyed does (line t r) s m a z n = (a ≡ done) × ((share : ℕ) × (z ≡ after_deed t r (next_deed t r.track) share s) × Shares does m t (next_deed t r.track) share n)
+Obeyed does (at_once b x) s m a z n = (a ≡ b) × (z ≡ x) × (n ≡ m)
 
 module _ {M : Type 0} (does : Doing M) (limit : ℕ) where
-  carried_kept : (v : Verdict) (s z : State) (m n : M) (a : Answer) → Able limit s → Meant s v → Carried does limit v s m a z n → CallKept v s a z
-  carried_kept (refuse e) s z m n a g h (share, told, x, y) = record { own = subst IsOwn (sym x) h; obeyed = (x, y); lawful = subst Lawful (sym y) g.lawful }
+  -- a call is obeyed or meets a question of its own, and the facts hold after it
+  pub record CallKept (v : Verdict) (s : State) (m : M) (a : Answer) (z : State) (n : M) : Type 0 where
+    pub own : IsOwn a
+    pub obeyed : Obeyed does v s m a z n
+    pub lawful : Lawful z
+
+  carried_kept : (v : Verdict) (s z : State) (m n : M) (a : Answer) → Able limit s → Meant s v → Carried does limit v s m a z n → CallKept v s m a z n
+  carried_kept (refuse e) s z m n a g h (share, told, x, y) = record { own = subst IsOwn (sym x) h; obeyed = (x, y, told.1); lawful = subst Lawful (sym y) g.lawful }
   carried_kept (line t r) s z m n a g h (share, told, x, y) =
       let d = next_deed t r.track in
       let none = allowed limit s t r g.lawful g.fits g.two h in
       let answer : a ≡ done = subst (λ o. a ≡ (lined o t r d share s).0) none x in
       let left : z ≡ after_deed t r d share s = subst (λ o. z ≡ (lined o t r d share s).1) none y in
-      record { own = subst IsOwn (sym answer) tt; obeyed = (answer, (share, left)); lawful = subst Lawful (sym left) (line_lawful s t r share g.lawful h) }
-  carried_kept (at_once b w) s z m n a g h (share, told, x, y) = record { own = subst IsOwn (sym x) h.own; obeyed = (x, y); lawful = subst Lawful (sym y) h.lawful }
+      record { own = subst IsOwn (sym answer) tt; obeyed = (answer, (share, left, subst (λ o. LineShares does o m t d share n) none told)); lawful = subst Lawful (sym left) (line_lawful s t r share g.lawful h) }
+  carried_kept (at_once b w) s z m n a g h (share, told, x, y) = record { own = subst IsOwn (sym x) h.own; obeyed = (x, y, told.1); lawful = subst Lawful (sym y) h.lawful }
 
-  pub call_kept : (c : Call) (s z : State) (m n : M) (a : Answer) → Able limit s → Calls does limit c s m a z n → CallKept (judge c s) s a z
+  pub call_kept : (c : Call) (s z : State) (m n : M) (a : Answer) → Able limit s → Calls does limit c s m a z n → CallKept (judge c s) s m a z n
   call_kept c s z m n a g h = carried_kept (judge c s) s z m n a g (meant c s g.lawful) h
 
   pub call_able : (c : Call) (s z : State) (m n : M) (a : Answer) → Able limit s → Calls does limit c s m a z n → Able limit z

@@ -2,34 +2,28 @@
 use Rattle.std.specs.Prelude.{◌≡◌, ℕ, ◌+◌, Bool, true, false, min, cond, not, ◌&&◌, ◌==◌}
 use Rattle.memory.specs.Calls.{Doing}
 use Rattle.lines.specs.declared.deed.Deed.{Deed}
-use Rattle.lines.specs.declared.deed.Deed.TheVariants.{Touch, Join, First, Quit, Nothing}
+use Rattle.lines.specs.declared.deed.Deed.TheVariants.{Touch}
 use Rattle.lines.specs.declared.place.Place.{Place}
-use Rattle.lines.specs.declared.place.Place.TheVariants.{Rest, Inside, Next}
+use Rattle.lines.specs.declared.place.Place.TheVariants.{Rest}
 use Rattle.calls.specs.declared.record.Record.{Record}
-use Rattle.calls.specs.Steps.{Call, advance, begin, downgrade, lay_back, leave, put, read, take, upgrade}
+use Rattle.calls.specs.Steps.{Call, begin, lay_back, put, read, take}
 use Rattle.lock.specs.History.{History}
 use Rattle.lock.specs.Runs.{Made, task_of, was_obeyed}
 
 -- of a deed of task t, which took it from n to p, the memory told this share: that of its operation, or 0 where it touches no cell
 abbrev pub TellsShare : {M : Type 0} → Doing M → M → ℕ → Deed → ℕ → M → Type 0
 TellsShare does n t (Touch op) share p = does n t op share p
-TellsShare does n t Join share p = (share ≡ 0) × (p ≡ n)
-TellsShare does n t First share p = (share ≡ 0) × (p ≡ n)
-TellsShare does n t Quit share p = (share ≡ 0) × (p ≡ n)
-TellsShare does n t Nothing share p = (share ≡ 0) × (p ≡ n)
+TellsShare does n t d share p = (share ≡ 0) × (p ≡ n)
 
 -- What an obeyed call makes of its task's cost, where the memory told this share: begin starts it anew, a line adds its share, and no
 -- cost passes the largest 32-bit number.
 abbrev pub cost_after : ℕ → ℕ → Call → ℕ
 cost_after cost share (begin t) = min share 4294967295
-cost_after cost share (advance t) = min (cost + share) 4294967295
 cost_after cost share (take w t) = cost
 cost_after cost share (lay_back w k t) = cost
-cost_after cost share (upgrade k t) = min (cost + share) 4294967295
-cost_after cost share (downgrade k t) = min (cost + share) 4294967295
-cost_after cost share (leave w k t) = min (cost + share) 4294967295
 cost_after cost share (read w k t row) = cost
 cost_after cost share (put k t row n) = cost
+cost_after cost share c = min (cost + share) 4294967295
 
 -- what a call makes of the cost of task t: nothing, where it is refused or another task's
 abbrev pub cost_made : ℕ → ℕ → ℕ → Made → ℕ
@@ -38,8 +32,7 @@ cost_made t cost share e = cond (was_obeyed e.answer && (task_of e.call == t)) (
 -- whether a task at this place is at rest (written out here, and not the test by which records are kept in order)
 abbrev pub is_rest : Place → Bool
 is_rest Rest = true
-is_rest Inside = false
-is_rest (Next l) = false
+is_rest p = false
 
 -- whether a task that was at the first place and is at the second has come to rest
 abbrev pub comes_to_rest : Place → Place → Bool

@@ -1,7 +1,7 @@
 -- What the calls made, and their answers, say of a task: the pass that is out to it, its attempts, and the changes of its right.
 use Rattle.std.specs.Prelude.{ℕ, ◌+◌, cond, ◌&&◌, List, [], ◌∷◌, Some, None, Option, ◌==◌}
 use Rattle.lines.specs.declared.place.Right.{Right}
-use Rattle.calls.specs.Steps.{Call, advance, begin, downgrade, lay_back, leave, put, read, take, upgrade}
+use Rattle.calls.specs.Steps.{Call, begin, downgrade, lay_back, leave, take, upgrade}
 use Rattle.lock.specs.Runs.{Made, task_of, was_obeyed}
 
 -- the right of the pass that is out to a task, how many begins of it were obeyed, and how many upgrades and downgrades since the latest
@@ -18,14 +18,12 @@ nothing_yet = record { out = None; begins = 0; upgrades = 0; downgrades = 0 }
 -- what an obeyed call makes of its task's history: take hands a pass out, and four calls take it back
 abbrev pub obeyed_in : History → Call → History
 obeyed_in h (begin t) = record { out = h.out; begins = h.begins + 1; upgrades = 0; downgrades = 0 }
-obeyed_in h (advance t) = h
 obeyed_in h (take w t) = record { out = Some w; begins = h.begins; upgrades = h.upgrades; downgrades = h.downgrades }
 obeyed_in h (lay_back w k t) = record { out = None; begins = h.begins; upgrades = h.upgrades; downgrades = h.downgrades }
 obeyed_in h (upgrade k t) = record { out = None; begins = h.begins; upgrades = h.upgrades + 1; downgrades = h.downgrades }
 obeyed_in h (downgrade k t) = record { out = None; begins = h.begins; upgrades = h.upgrades; downgrades = h.downgrades + 1 }
 obeyed_in h (leave w k t) = record { out = None; begins = h.begins; upgrades = h.upgrades; downgrades = h.downgrades }
-obeyed_in h (read w k t row) = h
-obeyed_in h (put k t row n) = h
+obeyed_in h c = h
 
 -- what a call makes of the history of task t: nothing, where it is refused or another task's
 abbrev pub made_in : ℕ → History → Made → History

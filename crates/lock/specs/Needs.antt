@@ -46,10 +46,8 @@ AnswersSo number c a = a ≡ done
 
 -- a call was refused with this number
 abbrev pub IsRefused : Answer → ℕ → Type 0
-IsRefused done k = ⊥
-IsRefused (hands w j t) k = ⊥
-IsRefused (gives o) k = ⊥
 IsRefused (no e) k = refusal_number e ≡ k
+IsRefused a k = ⊥
 
 -- the only refusal that can come of a call that has what it needs: of a read, that the row is damaged
 abbrev pub RefusedAsDamaged : Call → Answer → Type 0

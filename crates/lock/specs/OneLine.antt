@@ -4,32 +4,28 @@ use Rattle.lines.specs.declared.deed.Deed.{Deed}
 use Rattle.lines.specs.declared.deed.Deed.TheVariants.{Nothing}
 use Rattle.lines.specs.declared.place.Line.{Line}
 use Rattle.lines.specs.declared.place.Place.{Place}
-use Rattle.lines.specs.declared.place.Place.TheVariants.{Rest, Inside, Next}
+use Rattle.lines.specs.declared.place.Place.TheVariants.{Next}
 use Rattle.lines.specs.declared.track.Track.{Track}
 use Rattle.lines.specs.Deeds.{cells_after, finds, waiting_after}
 use Rattle.lines.specs.Lines.{deed_of, settle}
 use Rattle.lines.specs.Starts.{begin_line, downgrade_line, leave_line, upgrade_line}
 use Rattle.calls.specs.States.{State, record_of}
-use Rattle.calls.specs.Steps.{Call, advance, begin, downgrade, lay_back, leave, put, read, take, upgrade}
+use Rattle.calls.specs.Steps.{Call, advance, begin, downgrade, leave, upgrade}
 use Rattle.lock.specs.Runs.{Made, task_of, was_obeyed}
 
 -- the line that a task at this place is before, if it is before one
 abbrev pub next_line : Place → Option Line
-next_line Rest = None
-next_line Inside = None
 next_line (Next l) = Some l
+next_line p = None
 
 -- the line that a call does where it is obeyed, by its task's track: advance does the next one, and four calls the first one of a way
 abbrev pub line_of : Call → Track → Option Line
 line_of (begin t) r = Some (begin_line r.role)
 line_of (advance t) r = next_line r.place
-line_of (take w t) r = None
-line_of (lay_back w k t) r = None
 line_of (upgrade k t) r = Some upgrade_line
 line_of (downgrade k t) r = Some (downgrade_line r.standing)
 line_of (leave w k t) r = Some (leave_line r.role r.standing)
-line_of (read w k t row) r = None
-line_of (put k t row n) r = None
+line_of c r = None
 
 -- the line that a call did, by the state before it: none where it was refused
 abbrev pub line_done : State → Made → Option Line

@@ -1,7 +1,7 @@
 -- The calls on a row of the table, what a run leaves in one, and what a read answers by it.
 use Rattle.std.specs.Prelude.{◌≡◌, ℕ, ◌<◌, ◌≤◌, cond, ◌&&◌, List, [], ◌∷◌, Some, None, ◌==◌, ◌↔◌}
 use Rattle.lines.specs.declared.place.Right.{Right}
-use Rattle.calls.specs.Steps.{Answer, Call, advance, begin, done, downgrade, gives, hands, lay_back, leave, no, put, read, take, upgrade}
+use Rattle.calls.specs.Steps.{Answer, Call, gives, put, read}
 use Rattle.lock.specs.declared.pass.Pass.{Pass}
 use Rattle.lock.specs.Needs.{IsRefused}
 use Rattle.lock.specs.Runs.{Made, was_obeyed}
@@ -16,15 +16,8 @@ put_showing p row thickness = put p.lock p.task row thickness
 
 -- a call leaves in a row what stood there, but for an obeyed put into it
 abbrev pub left_in : ℕ → Call → Answer → ℕ → ℕ
-left_in row (begin t) a v = v
-left_in row (advance t) a v = v
-left_in row (take w t) a v = v
-left_in row (lay_back w k t) a v = v
-left_in row (upgrade k t) a v = v
-left_in row (downgrade k t) a v = v
-left_in row (leave w k t) a v = v
-left_in row (read w k t r) a v = v
 left_in row (put k t r number) a v = cond (was_obeyed a && (r == row)) number v
+left_in row c a v = v
 
 -- the number last put into a row by these calls, or v if none was
 abbrev pub last_put : ℕ → List Made → ℕ → ℕ
@@ -47,7 +40,5 @@ pub record Reads (n : ℕ) (a : Answer) : Type 0 where
 
 -- an answer of the row: a thickness, absence, or that the row is damaged; so none of the read's other questions was answered no
 abbrev pub IsOfRow : Answer → Type 0
-IsOfRow done = ⊥
-IsOfRow (hands w k t) = ⊥
 IsOfRow (gives o) = Unit {0}
-IsOfRow (no e) = IsRefused (no e) 32
+IsOfRow a = IsRefused a 32

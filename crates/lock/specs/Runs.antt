@@ -3,7 +3,7 @@
 use Rattle.std.specs.Prelude.{◌≡◌, ℕ, Bool, true, false, List, [], ◌∷◌}
 use Rattle.memory.specs.Calls.{Doing}
 use Rattle.calls.specs.States.{State}
-use Rattle.calls.specs.Steps.{Answer, Call, Calls, advance, begin, done, downgrade, gives, hands, lay_back, leave, no, put, read, take, upgrade}
+use Rattle.calls.specs.Steps.{Answer, Call, Calls, advance, begin, downgrade, lay_back, leave, no, put, read, take, upgrade}
 
 -- a call that was made, and what it answered
 pub record Made : Type 0 where
@@ -12,10 +12,8 @@ pub record Made : Type 0 where
 
 -- whether a call with this answer was obeyed
 abbrev pub was_obeyed : Answer → Bool
-was_obeyed done = true
-was_obeyed (hands w k t) = true
-was_obeyed (gives o) = true
 was_obeyed (no e) = false
+was_obeyed a = true
 
 -- the task that a call is of
 abbrev pub task_of : Call → ℕ

@@ -40,6 +40,7 @@ impl Records {
 
     // The task's record is this from now on.
     #[inline(always)]
+    #[tactic(auto, using(crate::proofs::Kept::first_set))]
     pub(crate) fn put(&mut self, task: Task)
         ensures is { records_of self.new ≡ slice_set (records_of self.old) (task.number - 1) task.state }
         ensures count { length (records_of self.new) ≡ length (records_of self.old) }

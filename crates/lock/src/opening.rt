@@ -50,6 +50,7 @@ fn enlist(byte: u8) -> Record
 
 impl Records {
     // Tasks with these roles, task 1 first, in place of those before. (In place, since 64 records are a lot to make and copy.)
+    #[tactic(auto, using(crate::proofs::Opened::enlist_more, crate::proofs::Opened::enlisted_all))]
     fn enlist_all(&mut self, roles: &[u8])
         requires { length roles.now ≤ 64 }
         ensures { records_of self.new ≡ map enlisted roles.now }

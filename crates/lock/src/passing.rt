@@ -32,6 +32,7 @@ fn may_take(has: Option<Right>, out: Option<Right>, wanted: Right) -> Result<(),
 
 impl Task {
     // A pass for this right goes out to the task. Refused: 24, 25, 26.
+    #[tactic(auto, using(calls::proofs::Sound::out_in_order))]
     fn hand_out(self, right: Right) -> Result<Task, Refusal>
         ensures { HandsOut self right result }
     {
@@ -47,6 +48,7 @@ impl Task {
     }
 
     // No pass is out to the task any more.
+    #[tactic(auto, using(calls::proofs::Sound::back_in_order))]
     fn take_back(self) -> Task
         ensures number { result.number ≡ self.number }
         ensures state { result.state ≡ with_out self.state None }

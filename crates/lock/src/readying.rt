@@ -14,6 +14,7 @@ use lines::place::{Line, Place};
 // type, since that could not speak of the right of a type parameter.
 impl Task {
     // An attempt begins: line 16 for a reader and 0.1 for a writer. Refused: 21, 22.
+    #[tactic(auto, using(calls::proofs::Sound::begun_in_order))]
     pub(crate) fn ready_to_begin(self) -> Result<ReadyTask, Refusal>
         ensures { Readied (begin_refusal self.state) self.number (begun self.state) result }
     {
@@ -44,6 +45,7 @@ impl Task {
     }
 
     // An upgrade: line 27.1. Refused: 29.
+    #[tactic(auto, using(calls::proofs::Sound::upgrading_in_order))]
     pub(crate) fn ready_to_upgrade(self) -> Result<ReadyTask, Refusal>
         requires { out_for self.state.out reading ≡ true }
         ensures { Readied (upgrade_refusal self.state) self.number (upgrading self.state) result }
@@ -64,6 +66,7 @@ impl Task {
     }
 
     // A downgrade: line 25.1 or 28.1.
+    #[tactic(auto, using(calls::proofs::Sound::downgrading_in_order))]
     pub(crate) fn ready_to_downgrade(self) -> ReadyTask
         requires { out_for self.state.out writing ≡ true }
         ensures number { result.task.number ≡ self.number }
@@ -82,6 +85,7 @@ impl Task {
     }
 
     // A leave with a pass of this type: line 7, 23, 26.1 or 28.1.
+    #[tactic(auto, using(calls::proofs::Sound::leaving_in_order))]
     pub(crate) fn ready_to_leave<R: Bears>(self) -> ReadyTask
         requires { out_for self.state.out R.right ≡ true }
         ensures number { result.task.number ≡ self.number }

@@ -35,6 +35,7 @@ fn arrive(account: &mut Account, place: Place)
 
 // The task with this record did its next line, and this is what was told of it.
 #[inline(always)]
+#[tactic(auto, using(calls::proofs::Sound::room))]
 fn settle_one(state: &mut Record, told: Told)
     requires ordered { in_order state.old ≡ true }
     requires on_line { advance_refusal state.old ≡ None }

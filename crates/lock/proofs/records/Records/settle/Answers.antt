@@ -4,7 +4,7 @@ use Rattle.lines.specs.declared.place.Role.TheVariants.{Reader}
 use Rattle.calls.specs.declared.record.Record.{Record}
 use Rattle.calls.specs.Questions.{advance_refusal}
 use Rattle.calls.specs.Records.{fresh, in_order, settled}
-use Rattle.calls.proofs.Sound.{settled_in_order}
+use Rattle.calls.proofs.Sound.{fresh_in_order, settled_in_order}
 use Rattle.lock.specs.View.{record_at, records_of}
 use Rattle.lock.proofs.Kept.{first_set, pass_at, pass_set}
 use Rattle.lock.proofs.records.Records.settle.Goals as goal
@@ -16,7 +16,7 @@ invariant_of-self c =
     let r = record_at s.all c.args.number in
     let within : i < s.count = search (rules, arith) in
     let ready = ap advance_refusal (sym (get_or-take s.count s.all i (fresh Reader) within)) ∙ c.requires.on_line in
-    let ordered = pass_at in_order s.all i (fresh Reader) s.ordered (search (rules, arith)) in
+    let ordered = pass_at in_order s.all i (fresh Reader) (fresh_in_order Reader) s.ordered in
     let kept = ap in_order c.settle_one.ensures ∙ settled_in_order r c.args.told.found c.args.told.share ordered ready in
     record { places = search rules; fits = search rules; ordered = pass_set in_order s.all _ _ s.ordered kept }
 
