@@ -15,7 +15,7 @@ use Rattle.memory.specs.Operations.{cell_of}
 use Rattle.cache.specs.Layers.{cached}
 use Rattle.cache.specs.Copies.{Cached, Empties}
 use Rattle.lines.specs.declared.deed.Deed.{Deed}
-use Rattle.lines.specs.declared.deed.Deed.TheVariants.{Touch, Join, First, Quit, Nothing}
+use Rattle.lines.specs.declared.deed.Deed.TheVariants.{Touch}
 use Rattle.lines.specs.declared.place.Line.{Line}
 use Rattle.lines.specs.declared.place.Line.TheVariants.{L0p1, L0p2, L2, L10, L19, L32p1}
 use Rattle.lines.specs.declared.track.Track.{Track}
@@ -34,10 +34,7 @@ flag masks t k = cond (holds (get_or masks k 0) t) 1 0
 -- a deed that touches a cell touches one of the seven
 abbrev pub TouchesKnown : Deed → Type 0
 TouchesKnown (Touch op) = cell_of op < 7
-TouchesKnown Join = Unit {0}
-TouchesKnown First = Unit {0}
-TouchesKnown Quit = Unit {0}
-TouchesKnown Nothing = Unit {0}
+TouchesKnown d = Unit {0}
 
 pub touches_known : (l : Line) (t : ℕ) (r : Track) → TouchesKnown (deed_of l t r)
 touches_known L0p1 t r = tt
@@ -50,23 +47,12 @@ touches_known l t r = omega arith
 
 pub length-masks_after : (d : Deed) (t : ℕ) (masks : List ℕ) → length (masks_after d t masks) ≡ length masks
 length-masks_after (Touch (Read c)) t masks = elim (cases_Bool (holds (get_or masks c 0) t)) [ inl held ↦ rw held | inr free ↦ rw free (length-set masks c _) ]
-length-masks_after (Touch (Write c n)) t masks = length-set masks c 0
-length-masks_after (Touch (Add c s)) t masks = length-set masks c 0
-length-masks_after (Touch (Swap c e n)) t masks = length-set masks c 0
-length-masks_after Join t masks = refl
-length-masks_after First t masks = refl
-length-masks_after Quit t masks = refl
-length-masks_after Nothing t masks = refl
+length-masks_after (Touch op) t masks = length-set masks (cell_of op) 0
+length-masks_after d t masks = refl
 
 pub unit_share-charge : (d : Deed) (t : ℕ) (masks : List ℕ) → unit_share d t masks ≡ charge d (flag masks t)
 unit_share-charge (Touch (Read c)) t masks = elim (cases_Bool (holds (get_or masks c 0) t)) [ inl held ↦ rw held | inr free ↦ rw free ]
-unit_share-charge (Touch (Write c n)) t masks = refl
-unit_share-charge (Touch (Add c s)) t masks = refl
-unit_share-charge (Touch (Swap c e n)) t masks = refl
-unit_share-charge Join t masks = refl
-unit_share-charge First t masks = refl
-unit_share-charge Quit t masks = refl
-unit_share-charge Nothing t masks = refl
+unit_share-charge d t masks = refl
 
 holds_none : (t : ℕ) → holds 0 t ≡ false
 holds_none t = let e : 0 / 2 ^ (t - 1) ≡ 0 = zero-div (2 ^ (t - 1)) in rw e
@@ -87,26 +73,16 @@ module _ (masks : List ℕ) (seven : length masks ≡ 7) where
     | inl held ↦ rw held (elim (cases_eq c k) [ inl same ↦ rw (eq-eqb c k same, ← same, held) | inr other ↦ rw (ne_eqb c k other) ])
     | inr free ↦ rw free (flag-set c (joined (get_or masks c 0) t) t k known ∙ rw ((joins (get_or masks c 0) t h).0))
   ]
-  flag_own (Touch (Write c n)) t k known h = flag_emptied c t k known
-  flag_own (Touch (Add c s)) t k known h = flag_emptied c t k known
-  flag_own (Touch (Swap c e n)) t k known h = flag_emptied c t k known
-  flag_own Join t k known h = refl
-  flag_own First t k known h = refl
-  flag_own Quit t k known h = refl
-  flag_own Nothing t k known h = refl
+  flag_own (Touch op) t k known h = flag_emptied (cell_of op) t k known
+  flag_own d t k known h = refl
 
   pub flag_other : (d : Deed) (t u k : ℕ) → TouchesKnown d → 1 ≤ t → 1 ≤ u → u ≢ t → flag (masks_after d t masks) u k ≡ other_copies d (flag masks u) k
   flag_other (Touch (Read c)) t u k known h j apart = elim (cases_Bool (holds (get_or masks c 0) t)) [
     | inl held ↦ rw held
     | inr free ↦ rw free (flag-set c (joined (get_or masks c 0) t) u k known ∙ rw ((joins (get_or masks c 0) t h).1 u j apart) (elim (cases_eq c k) [ inl same ↦ rw (eq-eqb c k same, ← same) | inr other ↦ rw (ne_eqb c k other) ]))
   ]
-  flag_other (Touch (Write c n)) t u k known h j apart = flag_emptied c u k known
-  flag_other (Touch (Add c s)) t u k known h j apart = flag_emptied c u k known
-  flag_other (Touch (Swap c e n)) t u k known h j apart = flag_emptied c u k known
-  flag_other Join t u k known h j apart = refl
-  flag_other First t u k known h j apart = refl
-  flag_other Quit t u k known h j apart = refl
-  flag_other Nothing t u k known h j apart = refl
+  flag_other (Touch op) t u k known h j apart = flag_emptied (cell_of op) u k known
+  flag_other d t u k known h j apart = refl
 
 -- the same of a purse, which looks at three cells
 
@@ -153,15 +129,9 @@ cached_by_copies mem law =
 
 -- a memory that charges each operation so charges each deed of a line so
 module _ {M : Type 0} (does : Doing M) (masks : M → List ℕ) (top : M → ℕ) (law : (m n : M) (t : ℕ) (op : Operation) (share : ℕ) → does m t op share n → ChargedByUnits (Touch op) t (top m) (masks m) share (top n) (masks n)) where
-  untouched : (m n : M) (share : ℕ) → (share ≡ 0) × (n ≡ m) → Charged (top m) 0 (masks m) share (top n) (masks n)
-  untouched m n share e = record { within = omega arith; left = ap masks e.1; same_ceiling = ap top e.1 }
-
   pub deed_charged : (d : Deed) (m n : M) (t share : ℕ) → Shares does m t d share n → ChargedByUnits d t (top m) (masks m) share (top n) (masks n)
   deed_charged (Touch op) m n t share e = law m n t op share e
-  deed_charged Join m n t share e = untouched m n share e
-  deed_charged First m n t share e = untouched m n share e
-  deed_charged Quit m n t share e = untouched m n share e
-  deed_charged Nothing m n t share e = untouched m n share e
+  deed_charged d m n t share e = record { within = omega arith; left = ap masks e.1; same_ceiling = ap top e.1 }
 
 -- Where each operation below costs 1, the charge is the units.
 
@@ -185,15 +155,9 @@ module _ {S : Type 0} (does : Doing S) (one : CostsOne does) where
   cached_exact s t masks masks' task (Swap c e n) share d = record { paid = one s t task (Swap c e n) share d.0; left = d.1 }
 
 module _ {M : Type 0} (does : Doing M) (masks : M → List ℕ) (law : (m n : M) (t : ℕ) (op : Operation) (share : ℕ) → does m t op share n → ExactUnits (Touch op) t (masks m) share (masks n)) where
-  untouched_exact : (m n : M) (share : ℕ) → (share ≡ 0) × (n ≡ m) → Exact 0 (masks m) share (masks n)
-  untouched_exact m n share e = record { paid = e.0; left = ap masks e.1 }
-
   pub deed_exact : (d : Deed) (m n : M) (t share : ℕ) → Shares does m t d share n → ExactUnits d t (masks m) share (masks n)
   deed_exact (Touch op) m n t share e = law m n t op share e
-  deed_exact Join m n t share e = untouched_exact m n share e
-  deed_exact First m n t share e = untouched_exact m n share e
-  deed_exact Quit m n t share e = untouched_exact m n share e
-  deed_exact Nothing m n t share e = untouched_exact m n share e
+  deed_exact d m n t share e = record { paid = e.0; left = ap masks e.1 }
 
 -- Opening writes every cell, so nobody holds a copy then: over any memory that leaves the masks so.
 module _ {M : Type 0} (does : Doing M) (masks : M → List ℕ) (leaves : (m n : M) (t : ℕ) (op : Operation) (share : ℕ) → does m t op share n → masks n ≡ masks_after (Touch op) t (masks m)) where
