@@ -1,16 +1,15 @@
 -- A lock can be opened, each call has an answer and each list of calls a run, over a memory that does what it does not refuse.
-use Rattle.std.proofs.Common.{◌≡◌, ℕ, ◌≤◌, true, false, not, leb, List, [], ◌∷◌, length, get_or, set, Some, None, Option, refl, sym, ap, ◌∙◌, subst, arith}
+use Rattle.std.proofs.Common.{◌≡◌, ℕ, ◌≤◌, true, false, List, [], ◌∷◌, length, get_or, set, Some, None, Option, refl, sym, ap, ◌∙◌, subst, arith, rules}
 use Rattle.std.specs.Prelude.{MatchBool}
-use Rattle.std.proofs.lemmas.Bool.{le-leb, leb-true}
 use Rattle.std.proofs.lemmas.Bool.Decides.{nat_tests}
 use Rattle.std.proofs.lemmas.List.{length-set}
 use Rattle.sets.specs.Sets.{holds, joined}
 use Rattle.memory.specs.declared.interface.Memory.{Ghosts}
 use Rattle.memory.specs.declared.operation.Operation.{Operation}
-use Rattle.memory.specs.declared.operation.Operation.TheVariants.{Read, Write, Add, Swap}
+use Rattle.memory.specs.declared.operation.Operation.TheVariants.{Read}
 use Rattle.memory.specs.declared.refusal.Refusal.{Refusal as MemoryRefusal}
 use Rattle.memory.specs.Calls.{Kept}
-use Rattle.memory.specs.Operations.{after, refusal}
+use Rattle.memory.specs.Operations.{after, cell_of, refusal}
 use Rattle.memory.proofs.Unrefused.{OneSet, one_set}
 use Rattle.cache.specs.declared.layer.Cache.{Cache}
 use Rattle.cache.specs.Held.{cached_kept}
@@ -23,26 +22,20 @@ use Rattle.words.specs.declared.array.Words.{Words}
 use Rattle.words.proofs.Takes.{new_words, words_take}
 use Rattle.lines.specs.declared.deed.Deed.{Deed}
 use Rattle.lines.specs.declared.deed.Deed.TheVariants.{Touch}
-use Rattle.lines.specs.declared.place.Right.TheVariants.{Reading, Writing}
 use Rattle.lines.specs.Deeds.{cells_after}
 use Rattle.lines.specs.Lines.{next_deed}
-use Rattle.lines.specs.Rights.{right_of}
 use Rattle.calls.specs.declared.record.Record.{Record}
 use Rattle.calls.specs.declared.refusal.Refusal.{Refusal}
-use Rattle.calls.specs.declared.refusal.Refusal.TheVariants.{Limit, Opened, Role as NotRole, Roles}
-use Rattle.calls.specs.Opening.{Wrote, are_roles, open_refusal, opened_to, opening_writes}
-use Rattle.calls.specs.Questions.{advance_refusal, begin_refusal, pass_refusal, row_refusal, take_refusal, task_refusal, thickness_refusal, upgrade_refusal}
-use Rattle.calls.specs.Records.{begun, downgrading, leaving, upgrading, with_out}
-use Rattle.calls.specs.States.{State, record_of, with_record, with_row}
-use Rattle.calls.specs.Steps.{Answer, Call, Calls, Carried, LineShares, Shares, Verdict, after_deed, asked, at_once, advance, begin, by_memory, deed_refusal, done, downgrade, hands, judge, lay_back, leave, line, lined, no, put, read, refuse, row_answer, take, upgrade}
-use Rattle.calls.proofs.Obeyed.{yes}
+use Rattle.calls.specs.Opening.{Wrote, open_refusal, opened_to, opening_writes}
+use Rattle.calls.specs.States.{State}
+use Rattle.calls.specs.Steps.{Answer, Call, Calls, Carried, LineShares, Shares, Verdict, after_deed, asked, at_once, begin, by_memory, deed_refusal, done, judge, line, lined, no, refuse}
 use Rattle.lock.specs.Answering.{Answering, EachAnswers, EachOpens, EachRuns, Total}
 use Rattle.lock.proofs.Opened.{seven_written, wrote_cells}
 
 -- what goes up as no refusal was none below
-pub not_refused : (o : Option MemoryRefusal) → by_memory o ≡ None → o ≡ None
+not_refused : (o : Option MemoryRefusal) → by_memory o ≡ None → o ≡ None
 not_refused None h = refl
-not_refused (Some e) h = absurd (let z : ◌≡◌ {A = ℕ} 0 1 = cc in omega arith)
+not_refused (Some e) h = cc
 
 module _ {M : Type 0} (mem : Ghosts M) (total : Total mem) where
   some_share : (d : Deed) (t : ℕ) (s : State) (m : M) → s.cells ≡ mem.cells m → deed_refusal mem.limit t d s.cells s.waiting ≡ None → (share : ℕ) × (n : M) × Shares mem.does m t d share n
@@ -75,15 +68,8 @@ asked_stay s None v h = h
 asked_stay s (Some e) v h = tt
 
 judged_stay : (c : Call) (s : State) → CellsStay s (judge c s)
-judged_stay (begin t) s = asked_stay s (task_refusal s t) _ (asked_stay s (begin_refusal (record_of s t)) (line t (begun (record_of s t))) tt)
-judged_stay (advance t) s = asked_stay s (task_refusal s t) _ (asked_stay s (advance_refusal (record_of s t)) (line t (record_of s t)) tt)
-judged_stay (take w t) s = asked_stay s (task_refusal s t) _ (asked_stay s (take_refusal (right_of (record_of s t).track) (record_of s t).out w) (at_once (hands w s.number t) (with_record s t (with_out (record_of s t) (Some w)))) refl)
-judged_stay (lay_back w k t) s = asked_stay s (pass_refusal s w k t) (at_once done (with_record s t (with_out (record_of s t) None))) refl
-judged_stay (upgrade k t) s = asked_stay s (pass_refusal s Reading k t) _ (asked_stay s (upgrade_refusal (record_of s t)) (line t (upgrading (record_of s t))) tt)
-judged_stay (downgrade k t) s = asked_stay s (pass_refusal s Writing k t) (line t (downgrading (record_of s t))) tt
-judged_stay (leave w k t) s = asked_stay s (pass_refusal s w k t) (line t (leaving (record_of s t))) tt
-judged_stay (read w k t row) s = asked_stay s (pass_refusal s w k t) _ (asked_stay s (row_refusal row (length s.table)) (at_once (row_answer (get_or s.table row 0)) s) refl)
-judged_stay (put k t row n) s = asked_stay s (pass_refusal s Writing k t) _ (asked_stay s (row_refusal row (length s.table)) _ (asked_stay s (thickness_refusal n) (at_once done (with_row s row n)) refl))
+judged_stay (begin t) s = search (rules, asked_stay)
+judged_stay c s = search (rules, asked_stay)
 
 -- what every memory keeps
 abbrev pub EachKept : {M : Type 0} → Ghosts M → Type 0
@@ -109,7 +95,7 @@ module _ {M : Type 0} (mem : Ghosts M) (law : EachKept mem) where
 -- The list of calls, and the opening.
 
 -- operations of task 1 that are not refused, whatever the cells
-abbrev pub Free : ℕ → List Operation → Type 0
+abbrev Free : ℕ → List Operation → Type 0
 Free limit [] = Unit {0}
 Free limit (op ∷ ops) = ((xs : List ℕ) → refusal limit 1 op xs ≡ None) × Free limit ops
 
@@ -118,10 +104,7 @@ asked_two : (limit ceiling : ℕ) (s : State) (roles : List ℕ) → open_refusa
 asked_two limit ceiling s roles none = grind (arith, nat_tests)
 
 opening_free : (limit : ℕ) → 2 ≤ limit → Free limit opening_writes
-opening_free limit two =
-    let none : leb 0 limit ≡ true = le-leb 0 limit (omega arith) in
-    let one : leb 1 limit ≡ true = le-leb 1 limit (omega arith) in
-    (λ xs. rw none refl, (λ xs. rw none refl, (λ xs. rw none refl, (λ xs. rw one refl, (λ xs. rw one refl, (λ xs. rw none refl, (λ xs. rw none refl, tt)))))))
+opening_free limit two = grind (arith, nat_tests)
 
 module _ {M : Type 0} (mem : Ghosts M) (total : Total mem) (law : EachKept mem) where
   pub each_runs : EachRuns mem
@@ -131,7 +114,7 @@ module _ {M : Type 0} (mem : Ghosts M) (total : Total mem) (law : EachKept mem) 
       let (es, same, z, n, run) = each_runs cs y k (call_cells mem law c s y m k a is call) in
       (record { call = c; answer = a } ∷ es, ap (λ ds. c ∷ ds) same, z, n, (tt, (y, k, call, run)))
 
-  pub wrote : (ops : List Operation) (m : M) → Free mem.limit ops → (n : M) × Wrote mem.does m ops n
+  wrote : (ops : List Operation) (m : M) → Free mem.limit ops → (n : M) × Wrote mem.does m ops n
   wrote [] m free = (m, refl)
   wrote (op ∷ ops) m free =
       let (share, k, d) = total m 1 op (free.0 (mem.cells m)) in
@@ -159,9 +142,9 @@ cached_total {B} mem total m t (Read c) free =
       | true ↦ (0, m, (refl, refl, refl))
       | false ↦ let (share, n, d) = total m.below t (Read c) free in (share, with_masks n (set m.copies.masks c (joined held t)) (length-set m.copies.masks c _ ∙ m.copies.seven), (d, refl))
     ])
-cached_total mem total m t (Write c k) free = let (share, n, d) = total m.below t (Write c k) free in (share, with_masks n (set m.copies.masks c 0) (length-set m.copies.masks c 0 ∙ m.copies.seven), (d, refl))
-cached_total mem total m t (Add c k) free = let (share, n, d) = total m.below t (Add c k) free in (share, with_masks n (set m.copies.masks c 0) (length-set m.copies.masks c 0 ∙ m.copies.seven), (d, refl))
-cached_total mem total m t (Swap c e k) free = let (share, n, d) = total m.below t (Swap c e k) free in (share, with_masks n (set m.copies.masks c 0) (length-set m.copies.masks c 0 ∙ m.copies.seven), (d, refl))
+cached_total mem total m t op free =
+    let (share, n, d) = total m.below t op free in
+    (share, with_masks n (set m.copies.masks (cell_of op) 0) (length-set m.copies.masks (cell_of op) 0 ∙ m.copies.seven), (d, refl))
 
 pub cached_law : {B : Type 0} (mem : Ghosts B) → EachKept mem → EachKept (cached mem)
 cached_law mem law s t task op share d = cached_kept mem.cells mem.top mem.does law s.below t.below s.copies.masks t.copies.masks task op share d
@@ -172,7 +155,7 @@ cached_law mem law s t task op share d = cached_kept mem.cells mem.top mem.does 
 abbrev pub stored : {S : Type 0} → ℕ → (S → List ℕ) → Ghosts S
 stored limit numbers = record { LIMIT = limit; limit = limit; cells = numbers; top = λ s. 1; does = λ s t op share n. (numbers n ≡ after op (numbers s)) × (share ≡ 1) }
 
--- there is one; its numbers are within the limit, and it takes what one operation makes of them; and 15 fits
+-- what is known of such a store: there is one, it takes what one operation makes of its numbers, and 15 fits
 pub record Store {S : Type 0} (limit : ℕ) (numbers : S → List ℕ) : Type 0 where
   pub some : S
   pub seven : (s : S) → length (numbers s) ≡ 7

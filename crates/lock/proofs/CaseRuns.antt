@@ -3,7 +3,7 @@
 use Rattle.std.proofs.Common.{◌≡◌, ℕ, suc, ◌+◌, ◌≤◌, Bool, true, false, leb, List, [], ◌∷◌, map, length, set, Some, None, Ok, Option, Result, sym, refl, ap, ◌∙◌, subst, inr, arith}
 use Rattle.std.specs.List.{list_all}
 use Rattle.std.proofs.lemmas.Bool.Decides.{nat_tests}
-use Rattle.std.proofs.lemmas.Bool.{and_parts, le-leb, leb-true}
+use Rattle.std.proofs.lemmas.Bool.{and_parts, leb-true}
 use Rattle.memory.specs.declared.interface.Memory.{Ghosts}
 use Rattle.memory.specs.declared.refusal.Refusal.{Refusal as MemoryRefusal}
 use Rattle.memory.specs.Cells.{zeros}
@@ -16,11 +16,10 @@ use Rattle.lines.specs.declared.deed.Deed.TheVariants.{Touch}
 use Rattle.lines.specs.Lines.{next_deed}
 use Rattle.calls.specs.declared.record.Record.{Record}
 use Rattle.calls.specs.declared.refusal.Refusal.{Refusal}
-use Rattle.calls.specs.declared.refusal.Refusal.TheVariants.{Limit, Memory, Role as NotRole, Roles}
-use Rattle.calls.specs.Opening.{Opens, are_roles, open_refusal, opened_to}
+use Rattle.calls.specs.declared.refusal.Refusal.TheVariants.{Memory}
+use Rattle.calls.specs.Opening.{Opens, open_refusal, opened_to}
 use Rattle.calls.specs.States.{State}
 use Rattle.calls.specs.Steps.{Answer, Call, Verdict, by_memory, deed_refusal, judge, line, no}
-use Rattle.calls.proofs.Obeyed.{yes}
 use Rattle.lock.specs.Answering.{HasRun, Total}
 use Rattle.lock.specs.Cases.{Comes, ComesFrom, closed}
 use Rattle.lock.specs.Counted.{CostsOne, Counted}
@@ -118,7 +117,7 @@ module _ {S : Type 0} {limit : ℕ} {numbers : S → List ℕ} (u : Store limit 
       let cs = calls_of es in
       let x : Counted = record { state = s; masks = zeros } in
       let e : ◌≡◌ {A = List Made × Counted} (ds, seen_at y n) (es, (computed s es).1) =
-          runs_exactly mem one ds z y m n run ∙ (λ i. exact_run limit (same i) (start i)) ∙ wider_run limit u.large cs x (ap all_unrefused are ∙ free) ∙ (λ i. (are i, (computed s es).1)) in
+      runs_exactly mem one ds z y m n run ∙ (λ i. exact_run limit (same i) (start i)) ∙ wider_run limit u.large cs x (ap all_unrefused are ∙ free) ∙ (λ i. (are i, (computed s es).1)) in
       (n, subst (λ (r : List Made × Counted). Run layer.does limit r.0 z m r.1.state n) e run)
 
   -- computed answers and a computed end make a case, from a state that is written down

@@ -7,13 +7,13 @@ use Rattle.std.specs.Prelude.{MatchBool}
 use Rattle.sets.specs.Sets.{holds, joined}
 use Rattle.sets.proofs.Put.{joins}
 use Rattle.memory.specs.declared.operation.Operation.{Operation}
-use Rattle.memory.specs.declared.operation.Operation.TheVariants.{Read, Write, Add, Swap}
+use Rattle.memory.specs.declared.operation.Operation.TheVariants.{Read}
 use Rattle.memory.specs.declared.interface.Memory.{Ghosts}
 use Rattle.memory.specs.Calls.{Doing, Kept}
 use Rattle.memory.specs.Cells.{zeros}
 use Rattle.memory.specs.Operations.{cell_of}
 use Rattle.cache.specs.Layers.{cached}
-use Rattle.cache.specs.Copies.{Cached, Empties}
+use Rattle.cache.specs.Copies.{Cached}
 use Rattle.lines.specs.declared.deed.Deed.{Deed}
 use Rattle.lines.specs.declared.deed.Deed.TheVariants.{Touch}
 use Rattle.lines.specs.declared.place.Line.{Line}
@@ -104,9 +104,6 @@ ChargedByUnits d t ceiling masks share ceiling' masks' = Charged ceiling (unit_s
 
 -- the cache layer charges each operation so, over any memory
 module _ {S : Type 0} (cells : S → List ℕ) (top : S → ℕ) (does : Doing S) (law : (s t : S) (task : ℕ) (op : Operation) (share : ℕ) → does s task op share t → Kept cells top s op share t) where
-  emptied : (s t : S) (masks masks' : List ℕ) (task c : ℕ) (op : Operation) (share : ℕ) → Empties does s masks task op c share t masks' → Charged (top s) 1 (set masks c 0) share (top t) masks'
-  emptied s t masks masks' task c op share d = let kept = law s t task op share d.0 in record { within = omega arith; left = d.1; same_ceiling = kept.2 }
-
   pub cached_charged : (s t : S) (masks masks' : List ℕ) (task : ℕ) (op : Operation) (share : ℕ) → Cached does s masks task op share t masks' → ChargedByUnits (Touch op) task (top s) masks share (top t) masks'
   cached_charged s t masks masks' task (Read c) share d =
       let more = set masks c (joined (get_or masks c 0) task) in
@@ -114,9 +111,7 @@ module _ {S : Type 0} (cells : S → List ℕ) (top : S → ℕ) (does : Doing S
         | true ↦ λ e. record { within = omega arith; left = e.2; same_ceiling = ap top e.1 }
         | false ↦ λ e. let kept = law s t task (Read c) share e.0 in record { within = omega arith; left = e.1; same_ceiling = kept.2 }
       ]) d
-  cached_charged s t masks masks' task (Write c n) share d = emptied s t masks masks' task c (Write c n) share d
-  cached_charged s t masks masks' task (Add c p) share d = emptied s t masks masks' task c (Add c p) share d
-  cached_charged s t masks masks' task (Swap c e n) share d = emptied s t masks masks' task c (Swap c e n) share d
+  cached_charged s t masks masks' task op share d = let kept = law s t task op share d.0 in record { within = omega arith; left = d.1; same_ceiling = kept.2 }
 
 -- so it charges by copies
 pub cached_by_copies : {B : Type 0} (mem : Ghosts B) → ((s t : B) (task : ℕ) (op : Operation) (share : ℕ) → mem.does s task op share t → Kept mem.cells mem.top s op share t) → ChargesByCopies (cached mem) (λ m. m.copies.masks)
@@ -150,9 +145,7 @@ module _ {S : Type 0} (does : Doing S) (one : CostsOne does) where
         | true ↦ λ e. record { paid = e.0; left = e.2 }
         | false ↦ λ e. record { paid = one s t task (Read c) share e.0; left = e.1 }
       ]) d
-  cached_exact s t masks masks' task (Write c n) share d = record { paid = one s t task (Write c n) share d.0; left = d.1 }
-  cached_exact s t masks masks' task (Add c p) share d = record { paid = one s t task (Add c p) share d.0; left = d.1 }
-  cached_exact s t masks masks' task (Swap c e n) share d = record { paid = one s t task (Swap c e n) share d.0; left = d.1 }
+  cached_exact s t masks masks' task op share d = record { paid = one s t task op share d.0; left = d.1 }
 
 module _ {M : Type 0} (does : Doing M) (masks : M → List ℕ) (law : (m n : M) (t : ℕ) (op : Operation) (share : ℕ) → does m t op share n → ExactUnits (Touch op) t (masks m) share (masks n)) where
   pub deed_exact : (d : Deed) (m n : M) (t share : ℕ) → Shares does m t d share n → ExactUnits d t (masks m) share (masks n)
@@ -165,7 +158,7 @@ module _ {M : Type 0} (does : Doing M) (masks : M → List ℕ) (leaves : (m n :
   wiped [] ms = ms
   wiped (op ∷ ops) ms = wiped ops (masks_after (Touch op) 1 ms)
 
-  pub wrote_masks : (ops : List Operation) (m n : M) → Wrote does m ops n → masks n ≡ wiped ops (masks m)
+  wrote_masks : (ops : List Operation) (m n : M) → Wrote does m ops n → masks n ≡ wiped ops (masks m)
   wrote_masks [] m n w = ap masks w
   wrote_masks (op ∷ ops) m n (k, share, d, w) = wrote_masks ops k n w ∙ ap (wiped ops) (leaves m k 1 op share d)
 
