@@ -30,7 +30,7 @@ use Rattle.calls.specs.Opening.{Wrote, open_refusal, opened_to, opening_writes}
 use Rattle.calls.specs.States.{State}
 use Rattle.calls.specs.Steps.{Answer, Call, Calls, Carried, LineShares, Shares, Verdict, after_deed, asked, at_once, begin, by_memory, deed_refusal, done, judge, line, lined, no, refuse}
 use Rattle.lock.specs.Answering.{Answering, EachAnswers, EachOpens, EachRuns, Total}
-use Rattle.lock.proofs.Opened.{seven_written, wrote_cells}
+use Rattle.lock.proofs.Opened.{opened_cells}
 
 -- what goes up as no refusal was none below
 not_refused : (o : Option MemoryRefusal) → by_memory o ≡ None → o ≡ None
@@ -100,11 +100,8 @@ Free limit [] = Unit {0}
 Free limit (op ∷ ops) = ((xs : List ℕ) → refusal limit 1 op xs ≡ None) × Free limit ops
 
 -- opening asks that the limit is at least 2
-asked_two : (limit ceiling : ℕ) (s : State) (roles : List ℕ) → open_refusal limit ceiling s roles ≡ None → 2 ≤ limit
-asked_two limit ceiling s roles none = grind (arith, nat_tests)
-
-opening_free : (limit : ℕ) → 2 ≤ limit → Free limit opening_writes
-opening_free limit two = grind (arith, nat_tests)
+opening_free : (limit ceiling : ℕ) (s : State) (roles : List ℕ) → open_refusal limit ceiling s roles ≡ None → Free limit opening_writes
+opening_free limit ceiling s roles none = grind (arith, nat_tests)
 
 module _ {M : Type 0} (mem : Ghosts M) (total : Total mem) (law : EachKept mem) where
   pub each_runs : EachRuns mem
@@ -123,8 +120,8 @@ module _ {M : Type 0} (mem : Ghosts M) (total : Total mem) (law : EachKept mem) 
 
   pub each_opens : ((m : M) → length (mem.cells m) ≡ 7) → EachOpens mem
   each_opens seven s m roles is none =
-      let (n, w) = wrote opening_writes m (opening_free mem.limit (asked_two mem.limit (mem.top m) s roles none)) in
-      let cells = wrote_cells mem.cells mem.top mem.does law opening_writes m n w ∙ seven_written (mem.cells m) (seven m) in
+      let (n, w) = wrote opening_writes m (opening_free mem.limit (mem.top m) s roles none) in
+      let cells = opened_cells mem.cells mem.top mem.does law m n (seven m) w in
       (opened_to roles s, n, (refl, w, refl), λ cs. each_runs cs (opened_to roles s) n (sym cells))
 
   pub answering : ((m : M) → length (mem.cells m) ≡ 7) → Answering mem

@@ -1,5 +1,5 @@
 -- Which copies a task holds, read from the masks of the cache layer, and what a deed makes of them and charges in units.
-use Rattle.std.proofs.Common.{◌≡◌, ℕ, ◌-◌, ◌*◌, ◌/◌, ◌^◌, ◌<◌, ◌≤◌, true, false, cond, eqb, ◌≢◌, List, length, get_or, set, refl, sym, ap, ◌∙◌, inl, inr, arith, [], ◌∷◌}
+use Rattle.std.proofs.Common.{◌≡◌, ℕ, ◌-◌, ◌*◌, ◌/◌, ◌^◌, ◌<◌, ◌≤◌, true, false, cond, eqb, ◌≢◌, List, length, get_or, set, refl, sym, ap, ◌∙◌, inl, inr, arith}
 use native.Mathlib.Nat.{zero-div}
 use Rattle.std.proofs.lemmas.Bool.{cases_eq, cases_Bool, eq-eqb, ne_eqb}
 use Rattle.std.proofs.lemmas.List.{get_or-set_same, get_or-set_other, length-set}
@@ -17,14 +17,14 @@ use Rattle.cache.specs.Copies.{Cached}
 use Rattle.lines.specs.declared.deed.Deed.{Deed}
 use Rattle.lines.specs.declared.deed.Deed.TheVariants.{Touch}
 use Rattle.lines.specs.declared.place.Line.{Line}
-use Rattle.lines.specs.declared.place.Line.TheVariants.{L0p1, L0p2, L2, L10, L19, L32p1}
+use Rattle.lines.specs.declared.place.Line.TheVariants.{L2}
 use Rattle.lines.specs.declared.track.Track.{Track}
 use Rattle.lines.specs.Lines.{deed_of}
 use Rattle.calls.specs.Steps.{Shares}
 use Rattle.calls.specs.Opening.{Wrote, opening_writes}
 use Rattle.lock.specs.Copying.{ChargesByCopies}
 use Rattle.lock.specs.Counted.{CostsOne, masks_after, unit_share}
-use Rattle.lock.proofs.Opened.{seven_of}
+use Rattle.lock.proofs.Opened.{afters, seven_of, wrote_so}
 use Rattle.lock.proofs.Costs.{Units, charge, other_copies, own_copies, purse}
 
 -- 1 where task t holds a copy of cell k, else 0
@@ -37,13 +37,8 @@ TouchesKnown (Touch op) = cell_of op < 7
 TouchesKnown d = Unit {0}
 
 pub touches_known : (l : Line) (t : ℕ) (r : Track) → TouchesKnown (deed_of l t r)
-touches_known L0p1 t r = tt
-touches_known L0p2 t r = tt
 touches_known L2 t r = tt
-touches_known L10 t r = tt
-touches_known L19 t r = tt
-touches_known L32p1 t r = tt
-touches_known l t r = omega arith
+touches_known l t r = grind arith
 
 pub length-masks_after : (d : Deed) (t : ℕ) (masks : List ℕ) → length (masks_after d t masks) ≡ length masks
 length-masks_after (Touch (Read c)) t masks = elim (cases_Bool (holds (get_or masks c 0) t)) [ inl held ↦ rw held | inr free ↦ rw free (length-set masks c _) ]
@@ -154,13 +149,7 @@ module _ {M : Type 0} (does : Doing M) (masks : M → List ℕ) (law : (m n : M)
 
 -- Opening writes every cell, so nobody holds a copy then: over any memory that leaves the masks so.
 module _ {M : Type 0} (does : Doing M) (masks : M → List ℕ) (leaves : (m n : M) (t : ℕ) (op : Operation) (share : ℕ) → does m t op share n → masks n ≡ masks_after (Touch op) t (masks m)) where
-  abbrev wiped : List Operation → List ℕ → List ℕ
-  wiped [] ms = ms
-  wiped (op ∷ ops) ms = wiped ops (masks_after (Touch op) 1 ms)
-
-  wrote_masks : (ops : List Operation) (m n : M) → Wrote does m ops n → masks n ≡ wiped ops (masks m)
-  wrote_masks [] m n w = ap masks w
-  wrote_masks (op ∷ ops) m n (k, share, d, w) = wrote_masks ops k n w ∙ ap (wiped ops) (leaves m k 1 op share d)
-
   pub opened_masks : (m n : M) → length (masks m) ≡ 7 → Wrote does m opening_writes n → masks n ≡ zeros
-  opened_masks m n seven w = wrote_masks opening_writes m n w ∙ ap (wiped opening_writes) (seven_of (masks m) seven)
+  opened_masks m n seven w =
+      let step = λ (op : Operation). masks_after (Touch op) 1 in
+      wrote_so does masks step (λ m n op share d. leaves m n 1 op share d) opening_writes m n w ∙ ap (afters step opening_writes) (seven_of (masks m) seven)
