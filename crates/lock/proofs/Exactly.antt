@@ -25,15 +25,17 @@ module _ {B : Type 0} (mem : MemoryGhosts B) (one : CostsOne mem.does) where
   abbrev masks_of : Cache B → List ℕ
   masks_of m = m.copies.masks
 
+  -- the cache layer charges an operation its units
   law : (m n : Cache B) (t : ℕ) (op : Operation) (share : ℕ) → (cached mem).does m t op share n → ExactUnits (Touch op) t (masks_of m) share (masks_of n)
   law m n t op share h = cached_exact mem.does one m.below n.below m.copies.masks n.copies.masks t op share h
 
+  -- a line, a verdict
   line_exactly : (why : Option Refusal) (t : ℕ) (r : Record) (d : Deed) (s : State) (m n : Cache B) (share : ℕ) → LineShares (cached mem).does why m t d share n →
       ◌≡◌ {A = Answer × Counted} ((lined why t r d share s).0, seen_at (lined why t r d share s).1 n) (exact_line why t r d (seen_at s m))
   line_exactly None t r d s m n share h = let e = deed_exact (cached mem).does masks_of law d m n t share h in λ i. (done, record { state = after_deed t r d (e.paid i) s; masks = e.left i })
   line_exactly (Some e) t r d s m n share h = λ i. (no e, seen_at s (h.1 i))
 
-  pub carried_exactly : (v : Verdict) (s z : State) (m n : Cache B) (a : Answer) → Carried (cached mem).does mem.limit v s m a z n → ◌≡◌ {A = Answer × Counted} (a, seen_at z n) (exact_verdict mem.limit v (seen_at s m))
+  carried_exactly : (v : Verdict) (s z : State) (m n : Cache B) (a : Answer) → Carried (cached mem).does mem.limit v s m a z n → ◌≡◌ {A = Answer × Counted} (a, seen_at z n) (exact_verdict mem.limit v (seen_at s m))
   carried_exactly (line t r) s z m n a (share, told, answers, leaves) =
       let d = next_deed t r.track in
       (λ i. (answers i, seen_at (leaves i) n)) ∙ line_exactly (deed_refusal mem.limit t d s.cells s.waiting) t r d s m n share told

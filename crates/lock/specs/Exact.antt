@@ -38,11 +38,11 @@ abbrev pub followed : ℕ → Plan → Counted → Answer × Counted
 followed limit (ends a) x = (a, x)
 followed limit (makes c next) x = followed limit (next (exact limit c x).0) (exact limit c x).1
 
--- calls, one after the other: each with its answer, and the state and the copies then
-
+-- a call that was answered so, in front of what the later ones come to
 abbrev pub made_then : Call → Answer → List Made × Counted → List Made × Counted
 made_then c a rest = (record { call = c; answer = a } ∷ rest.0, rest.1)
 
+-- calls, one after the other: each with its answer, and the state and the copies then
 abbrev pub exact_run : ℕ → List Call → Counted → List Made × Counted
 exact_run limit [] x = ([], x)
 exact_run limit (c ∷ cs) x = made_then c (exact limit c x).0 (exact_run limit cs (exact limit c x).1)
