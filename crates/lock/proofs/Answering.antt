@@ -1,49 +1,46 @@
 -- A lock can be opened, each call has an answer and each list of calls a run, over a memory that does what it does not refuse.
-use Rattle.std.proofs.Common.{◌≡◌, ℕ, ◌≤◌, true, false, not, leb, List, [], ◌∷◌, length, get_or, set, Some, None, Option, refl, sym, ap, ◌∙◌, subst, arith}
+use Rattle.std.proofs.Common.{◌≡◌, ℕ, ◌≤◌, true, false, List, [], ◌∷◌, length, get_or, set, Some, None, Option, refl, sym, ap, ◌∙◌, subst, arith, rules}
 use Rattle.std.specs.Prelude.{MatchBool}
-use Rattle.std.proofs.lemmas.Bool.{le-leb, leb-true}
+use Rattle.std.proofs.lemmas.Bool.Decides.{nat_tests}
 use Rattle.std.proofs.lemmas.List.{length-set}
 use Rattle.sets.specs.Sets.{holds, joined}
 use Rattle.memory.specs.declared.interface.Memory.{Ghosts}
 use Rattle.memory.specs.declared.operation.Operation.{Operation}
-use Rattle.memory.specs.declared.operation.Operation.TheVariants.{Read, Write, Add, Swap}
+use Rattle.memory.specs.declared.operation.Operation.TheVariants.{Read}
 use Rattle.memory.specs.declared.refusal.Refusal.{Refusal as MemoryRefusal}
 use Rattle.memory.specs.Calls.{Kept}
-use Rattle.memory.specs.Operations.{after, refusal}
+use Rattle.memory.specs.Operations.{after, cell_of, refusal}
 use Rattle.memory.proofs.Unrefused.{OneSet, one_set}
 use Rattle.cache.specs.declared.layer.Cache.{Cache}
 use Rattle.cache.specs.Held.{cached_kept}
 use Rattle.cache.specs.Layers.{cached}
+use Rattle.packed.specs.declared.word.Packed.{Packed}
+use Rattle.packed.specs.Fields.{fields}
+use Rattle.packed.specs.Small.{fields_small}
+use Rattle.packed.proofs.Takes.{packed_takes}
+use Rattle.words.specs.declared.array.Words.{Words}
+use Rattle.words.proofs.Takes.{new_words, words_take}
 use Rattle.lines.specs.declared.deed.Deed.{Deed}
-use Rattle.lines.specs.declared.deed.Deed.TheVariants.{Touch, Join, First, Quit, Nothing}
-use Rattle.lines.specs.declared.place.Right.TheVariants.{Reading, Writing}
+use Rattle.lines.specs.declared.deed.Deed.TheVariants.{Touch}
 use Rattle.lines.specs.Deeds.{cells_after}
 use Rattle.lines.specs.Lines.{next_deed}
-use Rattle.lines.specs.Rights.{right_of}
 use Rattle.calls.specs.declared.record.Record.{Record}
 use Rattle.calls.specs.declared.refusal.Refusal.{Refusal}
-use Rattle.calls.specs.declared.refusal.Refusal.TheVariants.{Limit, Opened, Role as NotRole, Roles}
-use Rattle.calls.specs.Opening.{Wrote, are_roles, open_refusal, opened_to, opening_writes}
-use Rattle.calls.specs.Questions.{advance_refusal, begin_refusal, pass_refusal, row_refusal, take_refusal, task_refusal, thickness_refusal, upgrade_refusal}
-use Rattle.calls.specs.Records.{begun, downgrading, leaving, upgrading, with_out}
-use Rattle.calls.specs.States.{State, record_of, with_record, with_row}
-use Rattle.calls.specs.Steps.{Answer, Call, Calls, Carried, LineShares, Shares, Verdict, after_deed, asked, at_once, advance, begin, by_memory, deed_refusal, done, downgrade, hands, judge, lay_back, leave, line, lined, no, put, read, refuse, row_answer, take, upgrade}
-use Rattle.calls.proofs.Obeyed.{yes}
+use Rattle.calls.specs.Opening.{Wrote, open_refusal, opened_to, opening_writes}
+use Rattle.calls.specs.States.{State}
+use Rattle.calls.specs.Steps.{Answer, Call, Calls, Carried, LineShares, Shares, Verdict, after_deed, asked, at_once, begin, by_memory, deed_refusal, done, judge, line, lined, no, refuse}
 use Rattle.lock.specs.Answering.{Answering, EachAnswers, EachOpens, EachRuns, Total}
-use Rattle.lock.proofs.Opened.{seven_written, wrote_cells}
+use Rattle.lock.proofs.Opened.{opened_cells}
 
 -- what goes up as no refusal was none below
-pub not_refused : (o : Option MemoryRefusal) → by_memory o ≡ None → o ≡ None
+not_refused : (o : Option MemoryRefusal) → by_memory o ≡ None → o ≡ None
 not_refused None h = refl
-not_refused (Some e) h = absurd (let z : ◌≡◌ {A = ℕ} 0 1 = cc in omega arith)
+not_refused (Some e) h = cc
 
 module _ {M : Type 0} (mem : Ghosts M) (total : Total mem) where
   some_share : (d : Deed) (t : ℕ) (s : State) (m : M) → s.cells ≡ mem.cells m → deed_refusal mem.limit t d s.cells s.waiting ≡ None → (share : ℕ) × (n : M) × Shares mem.does m t d share n
   some_share (Touch op) t s m is free = total m t op (subst (λ cs. refusal mem.limit t op cs ≡ None) is (not_refused (refusal mem.limit t op s.cells) free))
-  some_share Join t s m is free = (0, m, (refl, refl))
-  some_share First t s m is free = (0, m, (refl, refl))
-  some_share Quit t s m is free = (0, m, (refl, refl))
-  some_share Nothing t s m is free = (0, m, (refl, refl))
+  some_share d t s m is free = (0, m, (refl, refl))
 
   line_answers : (o : Option Refusal) (t : ℕ) (r : Record) (s : State) (m : M) → s.cells ≡ mem.cells m → deed_refusal mem.limit t (next_deed t r.track) s.cells s.waiting ≡ o → (a : Answer) × (z : State) × (n : M) × Carried mem.does mem.limit (line t r) s m a z n
   line_answers None t r s m is free =
@@ -63,24 +60,16 @@ module _ {M : Type 0} (mem : Ghosts M) (total : Total mem) where
 
 -- an answer at once leaves the cells
 abbrev CellsStay : State → Verdict → Type 0
-CellsStay s (refuse e) = Unit {0}
-CellsStay s (line t r) = Unit {0}
 CellsStay s (at_once a z) = z.cells ≡ s.cells
+CellsStay s v = Unit {0}
 
 asked_stay : (s : State) (o : Option Refusal) (v : Verdict) → CellsStay s v → CellsStay s (asked o v)
 asked_stay s None v h = h
 asked_stay s (Some e) v h = tt
 
 judged_stay : (c : Call) (s : State) → CellsStay s (judge c s)
-judged_stay (begin t) s = asked_stay s (task_refusal s t) _ (asked_stay s (begin_refusal (record_of s t)) (line t (begun (record_of s t))) tt)
-judged_stay (advance t) s = asked_stay s (task_refusal s t) _ (asked_stay s (advance_refusal (record_of s t)) (line t (record_of s t)) tt)
-judged_stay (take w t) s = asked_stay s (task_refusal s t) _ (asked_stay s (take_refusal (right_of (record_of s t).track) (record_of s t).out w) (at_once (hands w s.number t) (with_record s t (with_out (record_of s t) (Some w)))) refl)
-judged_stay (lay_back w k t) s = asked_stay s (pass_refusal s w k t) (at_once done (with_record s t (with_out (record_of s t) None))) refl
-judged_stay (upgrade k t) s = asked_stay s (pass_refusal s Reading k t) _ (asked_stay s (upgrade_refusal (record_of s t)) (line t (upgrading (record_of s t))) tt)
-judged_stay (downgrade k t) s = asked_stay s (pass_refusal s Writing k t) (line t (downgrading (record_of s t))) tt
-judged_stay (leave w k t) s = asked_stay s (pass_refusal s w k t) (line t (leaving (record_of s t))) tt
-judged_stay (read w k t row) s = asked_stay s (pass_refusal s w k t) _ (asked_stay s (row_refusal row (length s.table)) (at_once (row_answer (get_or s.table row 0)) s) refl)
-judged_stay (put k t row n) s = asked_stay s (pass_refusal s Writing k t) _ (asked_stay s (row_refusal row (length s.table)) _ (asked_stay s (thickness_refusal n) (at_once done (with_row s row n)) refl))
+judged_stay (begin t) s = search (rules, asked_stay)
+judged_stay c s = search (rules, asked_stay)
 
 -- what every memory keeps
 abbrev pub EachKept : {M : Type 0} → Ghosts M → Type 0
@@ -89,10 +78,7 @@ EachKept {M} mem = (s t : M) (task : ℕ) (op : Operation) (share : ℕ) → mem
 module _ {M : Type 0} (mem : Ghosts M) (law : EachKept mem) where
   deed_cells : (d : Deed) (t : ℕ) (cs : List ℕ) (m n : M) (share : ℕ) → cs ≡ mem.cells m → Shares mem.does m t d share n → cells_after d cs ≡ mem.cells n
   deed_cells (Touch op) t cs m n share is d = ap (after op) is ∙ sym (law m n t op share d).0
-  deed_cells Join t cs m n share is d = is ∙ ap mem.cells (sym d.1)
-  deed_cells First t cs m n share is d = is ∙ ap mem.cells (sym d.1)
-  deed_cells Quit t cs m n share is d = is ∙ ap mem.cells (sym d.1)
-  deed_cells Nothing t cs m n share is d = is ∙ ap mem.cells (sym d.1)
+  deed_cells d t cs m n share is told = is ∙ ap mem.cells (sym told.1)
 
   line_cells : (o : Option Refusal) (t : ℕ) (r : Record) (d : Deed) (s : State) (m n : M) (share : ℕ) → s.cells ≡ mem.cells m → LineShares mem.does o m t d share n → (lined o t r d share s).1.cells ≡ mem.cells n
   line_cells None t r d s m n share is told = deed_cells d t s.cells m n share is told
@@ -109,24 +95,13 @@ module _ {M : Type 0} (mem : Ghosts M) (law : EachKept mem) where
 -- The list of calls, and the opening.
 
 -- operations of task 1 that are not refused, whatever the cells
-abbrev pub Free : ℕ → List Operation → Type 0
+abbrev Free : ℕ → List Operation → Type 0
 Free limit [] = Unit {0}
 Free limit (op ∷ ops) = ((xs : List ℕ) → refusal limit 1 op xs ≡ None) × Free limit ops
 
 -- opening asks that the limit is at least 2
-asked_two : (limit ceiling : ℕ) (s : State) (roles : List ℕ) → open_refusal limit ceiling s roles ≡ None → 2 ≤ limit
-asked_two limit ceiling s roles none =
-    let shut = yes (not s.opened) Opened _ none in
-    let some = yes (leb 1 (length roles)) Roles _ shut.1 in
-    let few = yes (leb (length roles) 64) Roles _ some.1 in
-    let known = yes (are_roles roles) NotRole _ few.1 in
-    leb-true 2 limit (yes (leb 2 limit) Limit _ known.1).0
-
-opening_free : (limit : ℕ) → 2 ≤ limit → Free limit opening_writes
-opening_free limit two =
-    let none : leb 0 limit ≡ true = le-leb 0 limit (omega arith) in
-    let one : leb 1 limit ≡ true = le-leb 1 limit (omega arith) in
-    (λ xs. rw none refl, (λ xs. rw none refl, (λ xs. rw none refl, (λ xs. rw one refl, (λ xs. rw one refl, (λ xs. rw none refl, (λ xs. rw none refl, tt)))))))
+opening_free : (limit ceiling : ℕ) (s : State) (roles : List ℕ) → open_refusal limit ceiling s roles ≡ None → Free limit opening_writes
+opening_free limit ceiling s roles none = grind (arith, nat_tests)
 
 module _ {M : Type 0} (mem : Ghosts M) (total : Total mem) (law : EachKept mem) where
   pub each_runs : EachRuns mem
@@ -136,7 +111,7 @@ module _ {M : Type 0} (mem : Ghosts M) (total : Total mem) (law : EachKept mem) 
       let (es, same, z, n, run) = each_runs cs y k (call_cells mem law c s y m k a is call) in
       (record { call = c; answer = a } ∷ es, ap (λ ds. c ∷ ds) same, z, n, (tt, (y, k, call, run)))
 
-  pub wrote : (ops : List Operation) (m : M) → Free mem.limit ops → (n : M) × Wrote mem.does m ops n
+  wrote : (ops : List Operation) (m : M) → Free mem.limit ops → (n : M) × Wrote mem.does m ops n
   wrote [] m free = (m, refl)
   wrote (op ∷ ops) m free =
       let (share, k, d) = total m 1 op (free.0 (mem.cells m)) in
@@ -145,8 +120,8 @@ module _ {M : Type 0} (mem : Ghosts M) (total : Total mem) (law : EachKept mem) 
 
   pub each_opens : ((m : M) → length (mem.cells m) ≡ 7) → EachOpens mem
   each_opens seven s m roles is none =
-      let (n, w) = wrote opening_writes m (opening_free mem.limit (asked_two mem.limit (mem.top m) s roles none)) in
-      let cells = wrote_cells mem.cells mem.top mem.does law opening_writes m n w ∙ seven_written (mem.cells m) (seven m) in
+      let (n, w) = wrote opening_writes m (opening_free mem.limit (mem.top m) s roles none) in
+      let cells = opened_cells mem.cells mem.top mem.does law m n (seven m) w in
       (opened_to roles s, n, (refl, w, refl), λ cs. each_runs cs (opened_to roles s) n (sym cells))
 
   pub answering : ((m : M) → length (mem.cells m) ≡ 7) → Answering mem
@@ -154,7 +129,7 @@ module _ {M : Type 0} (mem : Ghosts M) (total : Total mem) (law : EachKept mem) 
 
 -- The cache layer.
 
-abbrev with_masks : {B : Type 0} → B → (masks : List ℕ) → length masks ≡ 7 → Cache B
+abbrev pub with_masks : {B : Type 0} → B → (masks : List ℕ) → length masks ≡ 7 → Cache B
 with_masks b masks seven = record { below = b; copies = record { masks = masks; seven = seven } }
 
 pub cached_total : {B : Type 0} (mem : Ghosts B) → Total mem → Total (cached mem)
@@ -164,27 +139,41 @@ cached_total {B} mem total m t (Read c) free =
       | true ↦ (0, m, (refl, refl, refl))
       | false ↦ let (share, n, d) = total m.below t (Read c) free in (share, with_masks n (set m.copies.masks c (joined held t)) (length-set m.copies.masks c _ ∙ m.copies.seven), (d, refl))
     ])
-cached_total mem total m t (Write c k) free = let (share, n, d) = total m.below t (Write c k) free in (share, with_masks n (set m.copies.masks c 0) (length-set m.copies.masks c 0 ∙ m.copies.seven), (d, refl))
-cached_total mem total m t (Add c k) free = let (share, n, d) = total m.below t (Add c k) free in (share, with_masks n (set m.copies.masks c 0) (length-set m.copies.masks c 0 ∙ m.copies.seven), (d, refl))
-cached_total mem total m t (Swap c e k) free = let (share, n, d) = total m.below t (Swap c e k) free in (share, with_masks n (set m.copies.masks c 0) (length-set m.copies.masks c 0 ∙ m.copies.seven), (d, refl))
+cached_total mem total m t op free =
+    let (share, n, d) = total m.below t op free in
+    (share, with_masks n (set m.copies.masks (cell_of op) 0) (length-set m.copies.masks (cell_of op) 0 ∙ m.copies.seven), (d, refl))
 
 pub cached_law : {B : Type 0} (mem : Ghosts B) → EachKept mem → EachKept (cached mem)
 cached_law mem law s t task op share d = cached_kept mem.cells mem.top mem.does law s.below t.below s.copies.masks t.copies.masks task op share d
 
--- Words and Packed: a store of seven numbers that takes what one operation makes of them.
+-- Words and Packed: stores of seven numbers.
 
 -- a store as a memory, each operation at a share of 1
 abbrev pub stored : {S : Type 0} → ℕ → (S → List ℕ) → Ghosts S
 stored limit numbers = record { LIMIT = limit; limit = limit; cells = numbers; top = λ s. 1; does = λ s t op share n. (numbers n ≡ after op (numbers s)) × (share ≡ 1) }
 
-module _ {S : Type 0} (limit : ℕ) (numbers : S → List ℕ) (within : (s : S) (k : ℕ) → get_or (numbers s) k 0 ≤ limit) (takes : (s : S) (ys : List ℕ) → OneSet limit (numbers s) ys → (n : S) × (numbers n ≡ ys)) where
+-- what is known of such a store: there is one, it takes what one operation makes of its numbers, and 15 fits
+pub record Store {S : Type 0} (limit : ℕ) (numbers : S → List ℕ) : Type 0 where
+  pub some : S
+  pub seven : (s : S) → length (numbers s) ≡ 7
+  pub within : (s : S) (k : ℕ) → get_or (numbers s) k 0 ≤ limit
+  pub takes : (s : S) (ys : List ℕ) → OneSet limit (numbers s) ys → (n : S) × (numbers n ≡ ys)
+  pub large : 15 ≤ limit
+
+pub over_words : Store 4294967295 (λ (w : Words). w.numbers)
+over_words = record { some = new_words; seven = λ w. w.seven; within = λ w. w.small; takes = words_take; large = omega arith }
+
+pub over_packed : Store 15 (λ (p : Packed). fields p.bits)
+over_packed = record { some = record { bits = 0 }; seven = λ p. refl; within = λ p. fields_small p.bits; takes = packed_takes; large = omega arith }
+
+module _ {S : Type 0} {limit : ℕ} {numbers : S → List ℕ} (u : Store limit numbers) where
   pub stored_total : Total (stored limit numbers)
-  stored_total s t op free = let (n, is) = takes s _ (one_set limit t op (numbers s) (within s) free) in (1, n, (is, refl))
+  stored_total s t op free = let (n, is) = u.takes s _ (one_set limit t op (numbers s) (u.within s) free) in (1, n, (is, refl))
 
   pub stored_law : EachKept (stored limit numbers)
   stored_law s n t op share d = (d.0, omega (arith, d.1), refl)
 
-  pub stored_answers : ((s : S) → length (numbers s) ≡ 7) → Answering (stored limit numbers) × Answering (cached (stored limit numbers))
-  stored_answers seven =
+  pub stored_answers : Answering (stored limit numbers) × Answering (cached (stored limit numbers))
+  stored_answers =
       let mem = stored limit numbers in
-      (answering mem stored_total stored_law seven, answering (cached mem) (cached_total mem stored_total) (cached_law mem stored_law) (λ s. seven s.below))
+      (answering mem stored_total stored_law u.seven, answering (cached mem) (cached_total mem stored_total) (cached_law mem stored_law) (λ s. u.seven s.below))

@@ -1,203 +1,151 @@
--- Counted calls are a run of the relation, over the cache layer on any memory whose operations cost 1: so a case is shown by computing
--- its answers and its end.
-use Rattle.std.proofs.Common.{◌≡◌, ℕ, zero, suc, ◌≤◌, Bool, true, ◌&&◌, leb, List, [], ◌∷◌, get_or, map, length, Some, None, Ok, Option, sym, refl, ap, ◌∙◌, subst, arith}
-use Rattle.std.specs.Prelude.{is_none}
+-- A case is shown by computing. The calls have a run, which comes to what the one function says, and that is the same at the limit 15
+-- as at a larger one where the memory refused no call.
+use Rattle.std.proofs.Common.{◌≡◌, ℕ, suc, ◌+◌, ◌≤◌, Bool, true, false, leb, List, [], ◌∷◌, map, length, set, Some, None, Ok, Option, Result, sym, refl, ap, ◌∙◌, subst, inr, arith}
 use Rattle.std.specs.List.{list_all}
-use Rattle.std.proofs.lemmas.Bool.{and_parts, le-leb, leb-true}
+use Rattle.std.proofs.lemmas.Bool.Decides.{nat_tests}
+use Rattle.std.proofs.lemmas.Bool.{and_parts, leb-true}
 use Rattle.memory.specs.declared.interface.Memory.{Ghosts}
-use Rattle.memory.specs.declared.operation.Operation.{Operation}
-use Rattle.memory.specs.declared.operation.Operation.TheVariants.{Write}
+use Rattle.memory.specs.declared.refusal.Refusal.{Refusal as MemoryRefusal}
 use Rattle.memory.specs.Cells.{zeros}
 use Rattle.memory.specs.Operations.{refusal}
 use Rattle.memory.proofs.Unrefused.{wider}
 use Rattle.cache.specs.declared.layer.Cache.{Cache}
 use Rattle.cache.specs.Layers.{cached}
 use Rattle.lines.specs.declared.deed.Deed.{Deed}
-use Rattle.lines.specs.declared.deed.Deed.TheVariants.{Touch, Join, First, Quit, Nothing}
+use Rattle.lines.specs.declared.deed.Deed.TheVariants.{Touch}
 use Rattle.lines.specs.Lines.{next_deed}
-use Rattle.calls.specs.declared.refusal.Refusal.TheVariants.{Limit, Role as NotRole, Roles}
-use Rattle.calls.specs.Opening.{Opens, are_roles, open_refusal, opened_to, opening_writes}
+use Rattle.calls.specs.declared.record.Record.{Record}
+use Rattle.calls.specs.declared.refusal.Refusal.{Refusal}
+use Rattle.calls.specs.declared.refusal.Refusal.TheVariants.{Memory}
+use Rattle.calls.specs.Opening.{Opens, open_refusal, opened_to}
 use Rattle.calls.specs.States.{State}
-use Rattle.calls.specs.Steps.{Answer, Call, Calls, Carried, LineShares, Verdict, after_deed, at_once, by_memory, deed_refusal, done, judge, line, lined, refuse}
-use Rattle.calls.proofs.Obeyed.{yes}
-use Rattle.lock.specs.Answering.{Total}
+use Rattle.calls.specs.Steps.{Answer, Call, Verdict, by_memory, deed_refusal, judge, line, no}
+use Rattle.lock.specs.Answering.{HasRun, Total}
 use Rattle.lock.specs.Cases.{Comes, ComesFrom, closed}
-use Rattle.lock.specs.Counted.{CostsOne, Counted, answer_of, counted, counted_run, unit_share}
+use Rattle.lock.specs.Counted.{CostsOne, Counted}
+use Rattle.lock.specs.Exact.{exact, exact_line, exact_run, exact_verdict, made_then, seen_at}
 use Rattle.lock.specs.Runs.{Made, Run}
-use Rattle.lock.proofs.Answering.{EachKept, Free, call_cells, cached_law, cached_total, each_answers, each_opens, not_refused, wrote}
-use Rattle.lock.proofs.Copies.{ExactUnits, cached_exact, deed_exact, opened_masks, wrote_masks}
-use Rattle.lock.proofs.Opened.{afters, seven_of, seven_written, wrote_cells}
+use Rattle.lock.proofs.Answering.{EachKept, Store, cached_law, cached_total, each_opens, each_runs, stored, stored_law, stored_total, with_masks}
+use Rattle.lock.proofs.Exactly.{opened_exactly, runs_exactly}
+use Rattle.lock.proofs.Opened.{seven_of}
 
--- the calls with what they answer, where each line that is due is done
-abbrev pub made : List Call → Counted → List Made
-made [] x = []
-made (c ∷ cs) x = record { call = c; answer = answer_of (judge c x.state) } ∷ made cs (counted (judge c x.state) x)
+-- whether no memory refused the call that was answered so
+abbrev unrefused : Answer → Bool
+unrefused (no (Memory e)) = false
+unrefused a = true
 
--- whether neither a memory with the limit 15 nor the queue refuses the line that is due
-abbrev unrefused : Verdict → State → Bool
-unrefused (refuse e) s = true
-unrefused (line t r) s = is_none (deed_refusal 15 t (next_deed t r.track) s.cells s.waiting)
-unrefused (at_once a z) s = true
+abbrev pub all_unrefused : List Made → Bool
+all_unrefused es = list_all (λ (e : Made). unrefused e.answer) es
 
--- so it is of each of these calls, one after the other
-abbrev pub all_unrefused : List Call → Counted → Bool
-all_unrefused [] x = true
-all_unrefused (c ∷ cs) x = unrefused (judge c x.state) x.state && all_unrefused cs (counted (judge c x.state) x)
+-- What comes to something at the limit 15 with no refusal of the memory comes to the same at a larger limit.
+module _ (limit : ℕ) (large : 15 ≤ limit) where
+  wider_line : (t : ℕ) (r : Record) (d : Deed) (x : Counted) → unrefused (exact_line (deed_refusal 15 t d x.state.cells x.state.waiting) t r d x).0 ≡ true →
+      exact_line (deed_refusal limit t d x.state.cells x.state.waiting) t r d x ≡ exact_line (deed_refusal 15 t d x.state.cells x.state.waiting) t r d x
+  wider_line t r (Touch op) x free =
+      let none = not_refused (refusal 15 t op x.state.cells) free in
+      ap (λ o. exact_line (by_memory o) t r (Touch op) x) (wider 15 limit t op x.state.cells large none ∙ sym none)
+    where
+      not_refused : (o : Option MemoryRefusal) → unrefused (exact_line (by_memory o) t r (Touch op) x).0 ≡ true → o ≡ None
+      not_refused None h = refl
+      not_refused (Some e) h = cc
+  wider_line t r d x free = refl
 
--- the calls of these
+  wider_verdict : (v : Verdict) (x : Counted) → unrefused (exact_verdict 15 v x).0 ≡ true → exact_verdict limit v x ≡ exact_verdict 15 v x
+  wider_verdict (line t r) x free = wider_line t r (next_deed t r.track) x free
+  wider_verdict v x free = refl
+
+  wider_run : (cs : List Call) (x : Counted) → all_unrefused (exact_run 15 cs x).0 ≡ true → exact_run limit cs x ≡ exact_run 15 cs x
+  wider_run [] x free = refl
+  wider_run (c ∷ cs) x free =
+      let next = exact 15 c x in
+      let both = and_parts (unrefused next.0) (all_unrefused (exact_run 15 cs next.1).0) free in
+      ap (λ (r : Answer × Counted). made_then c r.0 (exact_run limit cs r.1)) (wider_verdict (judge c x.state) x both.0) ∙ ap (made_then c next.0) (wider_run cs next.1 both.1)
+
+  wider_opening : (rows roles : List ℕ) → open_refusal 15 1 (closed rows) roles ≡ None → open_refusal limit 1 (closed rows) roles ≡ None
+  wider_opening rows roles none = grind (arith, nat_tests)
+
+-- numbers put into the places from k on
+abbrev put_from : ℕ → List ℕ → List ℕ → List ℕ
+put_from k [] ys = ys
+put_from k (x ∷ xs) ys = put_from (suc k) xs (set ys k x)
+
 abbrev pub calls_of : List Made → List Call
 calls_of es = map (λ (e : Made). e.call) es
 
--- a state with no copies held
-abbrev pub uncopied : State → Counted
-uncopied s = record { state = s; masks = zeros }
+-- what calls with these answers come to at the limit 15, from a state with no copies
+abbrev pub computed : State → List Made → List Made × Counted
+computed s es = exact_run 15 (calls_of es) (record { state = s; masks = zeros })
 
-no_refusal : {A : Type 0} (o : Option A) → is_none o ≡ true → o ≡ None
-no_refusal None h = refl
-no_refusal (Some e) h = absurd (let z : ◌≡◌ {A = ℕ} 0 1 = cc in omega arith)
+module _ {S : Type 0} {limit : ℕ} {numbers : S → List ℕ} (u : Store limit numbers) where
+  abbrev mem : Ghosts S
+  mem = stored limit numbers
 
--- a memory with a larger limit refuses it no more
-
-wider_deed : (limit t : ℕ) (d : Deed) (cs ws : List ℕ) → 15 ≤ limit → deed_refusal 15 t d cs ws ≡ None → deed_refusal limit t d cs ws ≡ None
-wider_deed limit t (Touch op) cs ws more free = ap by_memory (wider 15 limit t op cs more (not_refused (refusal 15 t op cs) free))
-wider_deed limit t Join cs ws more free = free
-wider_deed limit t First cs ws more free = free
-wider_deed limit t Quit cs ws more free = free
-wider_deed limit t Nothing cs ws more free = free
-
-wider_opening : (limit : ℕ) (rows roles : List ℕ) → 15 ≤ limit → open_refusal 15 1 (closed rows) roles ≡ None → open_refusal limit 1 (closed rows) roles ≡ None
-wider_opening limit rows roles more none =
-    let n = length roles in
-    let some = yes (leb 1 n) Roles _ none in
-    let few = yes (leb n 64) Roles _ some.1 in
-    let known = yes (are_roles roles) NotRole _ few.1 in
-    let fits = yes (leb n 15) Limit _ known.1 in
-    let within = leb-true n 15 fits.0 in
-    let two : leb 2 limit ≡ true = le-leb 2 limit (omega arith) in
-    let fits' : leb n limit ≡ true = le-leb n limit (omega arith) in
-    rw (some.0, few.0, known.0, two, fits') fits.1
-
--- each of these numbers is at most 15
-small : (xs : List ℕ) → list_all (λ n. leb n 15) xs ≡ true → (k : ℕ) → get_or xs k 0 ≤ 15
-small [] all k = omega arith
-small (x ∷ xs) all zero = leb-true x 15 (and_parts (leb x 15) (list_all (λ n. leb n 15) xs) all).0
-small (x ∷ xs) all (suc k) = small xs (and_parts (leb x 15) (list_all (λ n. leb n 15) xs) all).1 k
-
--- each number written into its cell
-abbrev writes_of : List ℕ → List Operation
-writes_of xs = Write 0 (get_or xs 0 0) ∷ Write 1 (get_or xs 1 0) ∷ Write 2 (get_or xs 2 0) ∷ Write 3 (get_or xs 3 0) ∷ Write 4 (get_or xs 4 0) ∷ Write 5 (get_or xs 5 0) ∷ Write 6 (get_or xs 6 0) ∷ []
-
-written : (xs : List ℕ) → length xs ≡ 7 → afters (writes_of xs) zeros ≡ xs
-written xs seven = sym (seven_of xs seven)
-
--- a memory over which cases are computed, as Words and Packed are: a new one holds zeros, each number up to 15 fits in a cell, and each operation costs 1
-pub record CaseMemory {B : Type 0} (mem : Ghosts B) : Type 0 where
-  pub new : B
-  pub new_cells : mem.cells new ≡ zeros
-  pub total : Total mem
-  pub law : EachKept mem
-  pub one : CostsOne mem.does
-  pub ceiling : (b : B) → mem.top b ≡ 1
-  pub seven : (b : B) → length (mem.cells b) ≡ 7
-  pub large : 15 ≤ mem.limit
-
-module _ {B : Type 0} (mem : Ghosts B) (u : CaseMemory mem) where
-  abbrev layer : Ghosts (Cache B)
+  abbrev layer : Ghosts (Cache S)
   layer = cached mem
 
-  abbrev masks : Cache B → List ℕ
-  masks m = m.copies.masks
-
-  exact : (m n : Cache B) (t : ℕ) (op : Operation) (share : ℕ) → layer.does m t op share n → ExactUnits (Touch op) t (masks m) share (masks n)
-  exact m n t op share d = cached_exact mem.does u.one m.below n.below m.copies.masks n.copies.masks t op share d
-
   total : Total layer
-  total = cached_total mem u.total
+  total = cached_total mem (stored_total u)
 
   law : EachKept layer
-  law = cached_law mem u.law
+  law = cached_law mem (stored_law u)
 
-  abbrev counted_of : State → Cache B → Counted
-  counted_of s m = record { state = s; masks = masks m }
+  one : CostsOne mem.does
+  one s t task op share d = d.1
 
-  -- the call came to this verdict: it was answered so, and left the counted state and copies
-  record So (v : Verdict) (s : State) (m : Cache B) (a : Answer) (z : State) (n : Cache B) : Type 0 where
-    pub answer : a ≡ answer_of v
-    pub after : counted_of z n ≡ counted v (counted_of s m)
+  -- a store with these numbers from the place k on
+  store_from : (xs : List ℕ) (k : ℕ) (s : S) → k + length xs ≤ 7 → list_all (λ n. leb n 15) xs ≡ true → (n : S) × (numbers n ≡ put_from k xs (numbers s))
+  store_from [] k s room small = (s, refl)
+  store_from (x ∷ xs) k s room small =
+      let both = and_parts (leb x 15) (list_all (λ n. leb n 15) xs) small in
+      let (m, is) = u.takes s (set (numbers s) k x) (inr (k, x, omega arith, omega (arith, leb-true x 15 both.0, u.large), refl)) in
+      let (n, are) = store_from xs (suc k) m (omega arith) both.1 in
+      (n, are ∙ ap (put_from (suc k) xs) is)
 
-  carried_so : (v : Verdict) (s z : State) (m n : Cache B) (a : Answer) → unrefused v s ≡ true → Carried layer.does layer.limit v s m a z n → So v s m a z n
-  carried_so (refuse e) s z m n a free (share, told, x, y) = record { answer = x; after = λ i. record { state = y i; masks = masks (told.1 i) } }
-  carried_so (line t r) s z m n a free (share, told, x, y) =
-      let d = next_deed t r.track in
-      let none = wider_deed layer.limit t d s.cells s.waiting u.large (no_refusal (deed_refusal 15 t d s.cells s.waiting) free) in
-      let answer : a ≡ done = subst (λ o. a ≡ (lined o t r d share s).0) none x in
-      let left : z ≡ after_deed t r d share s = subst (λ o. z ≡ (lined o t r d share s).1) none y in
-      let units = deed_exact layer.does masks exact d m n t share (subst (λ o. LineShares layer.does o m t d share n) none told) in
-      let state : z ≡ after_deed t r d (unit_share d t (masks m)) s = left ∙ ap (λ k. after_deed t r d k s) units.paid in
-      record { answer = answer; after = λ i. record { state = state i; masks = units.left i } }
-  carried_so (at_once b w) s z m n a free (share, told, x, y) = record { answer = x; after = λ i. record { state = y i; masks = masks (told.1 i) } }
+  store_of : (xs : List ℕ) → length xs ≡ 7 → list_all (λ n. leb n 15) xs ≡ true → (n : S) × (numbers n ≡ xs)
+  store_of xs seven small =
+      let (n, are) = store_from xs 0 u.some (omega (arith, seven)) small in
+      (n, are ∙ (λ i. put_from 0 (seven_of xs seven i) (seven_of (numbers u.some) (u.seven u.some) i)) ∙ sym (seven_of xs seven))
 
-  -- the counted calls are a run, which leaves the counted state and some memory
-  pub counted_runs : (cs : List Call) (s : State) (m : Cache B) → s.cells ≡ layer.cells m → all_unrefused cs (counted_of s m) ≡ true →
-      (n : Cache B) × Run layer.does layer.limit (made cs (counted_of s m)) s m (counted_run cs (counted_of s m)).state n
-  counted_runs [] s m is free = (m, (tt, refl, refl))
-  counted_runs (c ∷ cs) s m is free =
-      let (a, y, k, call) = each_answers layer total c s m is in
-      let next = counted (judge c s) (counted_of s m) in
-      let both = and_parts (unrefused (judge c s) s) (all_unrefused cs next) free in
-      let so = carried_so (judge c s) s y m k a both.0 call in
-      let (n, run) = counted_runs cs y k (call_cells layer law c s y m k a is call) (subst (λ x. all_unrefused cs x ≡ true) (sym so.after) both.1) in
-      let run' : Run layer.does layer.limit (made cs next) y k (counted_run cs next).state n = subst (λ x. Run layer.does layer.limit (made cs x) y k (counted_run cs x).state n) so.after run in
-      (n, (tt, (y, k, subst (λ b. Calls layer.does layer.limit c s m b y k) so.answer call, run')))
+  -- a memory over the store, with no copies
+  abbrev uncopied : S → Cache S
+  uncopied n = with_masks n zeros refl
 
-  -- from a state over a memory with its cells and no copies, calls with the computed answers are a run
-  made_run : (m : Cache B) (s : State) (es : List Made) → layer.cells m ≡ s.cells → masks m ≡ zeros → all_unrefused (calls_of es) (uncopied s) ≡ true → made (calls_of es) (uncopied s) ≡ es →
-      (n : Cache B) × Run layer.does layer.limit es s m (counted_run (calls_of es) (uncopied s)).state n
-  made_run m s es is none free same =
-      let start : uncopied s ≡ counted_of s m = ap (λ ms. record { state = s; masks = ms }) (sym none) in
-      let (n, run) = counted_runs (calls_of es) s m (sym is) (subst (λ x. all_unrefused (calls_of es) x ≡ true) start free) in
-      let run' : Run layer.does layer.limit (made (calls_of es) (uncopied s)) s m (counted_run (calls_of es) (uncopied s)).state n = subst (λ x. Run layer.does layer.limit (made (calls_of es) x) s m (counted_run (calls_of es) x).state n) (sym start) run in
-      (n, subst (λ ds. Run layer.does layer.limit ds s m (counted_run (calls_of es) (uncopied s)).state n) same run')
-
-  abbrev new : Cache B
-  new = record { below = u.new; copies = record { masks = zeros; seven = refl } }
-
-  -- a memory with these numbers and no copies: a new one, after writes
-  memory_with : (xs : List ℕ) → length xs ≡ 7 → ((k : ℕ) → get_or xs k 0 ≤ 15) → (m : Cache B) × (layer.cells m ≡ xs) × (masks m ≡ zeros)
-  memory_with xs seven fits =
-      let room : (k : ℕ) → leb (get_or xs k 0) layer.limit ≡ true = λ k. le-leb (get_or xs k 0) layer.limit (omega (arith, fits k, u.large)) in
-      let free : Free layer.limit (writes_of xs) = (λ ys. rw (room 0) refl, (λ ys. rw (room 1) refl, (λ ys. rw (room 2) refl, (λ ys. rw (room 3) refl, (λ ys. rw (room 4) refl, (λ ys. rw (room 5) refl, (λ ys. rw (room 6) refl, tt))))))) in
-      let (m, w) = wrote layer total law (writes_of xs) new free in
-      let cells : layer.cells m ≡ afters (writes_of xs) zeros = subst (λ ys. layer.cells m ≡ afters (writes_of xs) ys) u.new_cells (wrote_cells layer.cells layer.top layer.does law (writes_of xs) new m w) in
-      (m, subst (λ ys. layer.cells m ≡ ys) (written xs seven) cells, wrote_masks layer.does masks (λ a b t op share d. (exact a b t op share d).left) (writes_of xs) new m w)
+  -- calls whose answers are computed are a run
+  computed_run : (s z : State) (m : Cache S) (es : List Made) → HasRun layer (calls_of es) z m → ◌≡◌ {A = Counted} (seen_at z m) (record { state = s; masks = zeros }) →
+      all_unrefused es ≡ true → (computed s es).0 ≡ es → (n : Cache S) × Run layer.does limit es z m (computed s es).1.state n
+  computed_run s z m es (ds, same, y, n, run) start free are =
+      let cs = calls_of es in
+      let x : Counted = record { state = s; masks = zeros } in
+      let e : ◌≡◌ {A = List Made × Counted} (ds, seen_at y n) (es, (computed s es).1) =
+      runs_exactly mem one ds z y m n run ∙ (λ i. exact_run limit (same i) (start i)) ∙ wider_run limit u.large cs x (ap all_unrefused are ∙ free) ∙ (λ i. (are i, (computed s es).1)) in
+      (n, subst (λ (r : List Made × Counted). Run layer.does limit r.0 z m r.1.state n) e run)
 
   -- computed answers and a computed end make a case, from a state that is written down
-  pub comes_from : (s : State) (es : List Made) (P : State → Type 0) → length s.cells ≡ 7 → list_all (λ n. leb n 15) s.cells ≡ true →
-      all_unrefused (calls_of es) (uncopied s) ≡ true → made (calls_of es) (uncopied s) ≡ es → P (counted_run (calls_of es) (uncopied s)).state → ComesFrom mem s es P
-  comes_from s es P seven all free same holds =
-      let (m, is, none) = memory_with s.cells seven (small s.cells all) in
-      let (n, run) = made_run m s es is none free same in
-      record { memory = m; its_cells = is; no_copies = none; end = _; end_memory = n; run = run; holds = holds }
+  pub comes_from : {s : State} {es : List Made} {P : State → Type 0} →
+      ◌≡◌ {A = ℕ × Bool × Bool × List Made} (length s.cells, list_all (λ n. leb n 15) s.cells, all_unrefused es, (computed s es).0) (7, true, true, es) →
+      P (computed s es).1.state → ComesFrom mem s es P
+  comes_from {s} {es} is holds =
+      let (b, cells) = store_of s.cells (λ i. (is i).0) (λ i. (is i).1) in
+      let (n, run) = computed_run s s (uncopied b) es (each_runs layer total law (calls_of es) s (uncopied b) (sym cells)) refl (λ i. (is i).2) (λ i. (is i).3) in
+      record { memory = uncopied b; its_cells = cells; no_copies = refl; end = _; end_memory = n; run = run; holds = holds }
 
   -- and from a lock that is opened
-  pub comes : (rows roles : List ℕ) (es : List Made) (P : State → Type 0) → open_refusal 15 1 (closed rows) roles ≡ None →
-      all_unrefused (calls_of es) (uncopied (opened_to roles (closed rows))) ≡ true → made (calls_of es) (uncopied (opened_to roles (closed rows))) ≡ es →
-      P (counted_run (calls_of es) (uncopied (opened_to roles (closed rows)))).state → Comes mem rows roles es P
-  comes rows roles es P none free same holds =
-      let s = opened_to roles (closed rows) in
-      let asked : open_refusal layer.limit (layer.top new) (closed rows) roles ≡ None = ap (λ k. open_refusal layer.limit k (closed rows) roles) (u.ceiling u.new) ∙ wider_opening layer.limit rows roles u.large none in
-      let (z, k, opens, each) = each_opens layer total law (λ n. u.seven n.below) (closed rows) new roles (sym u.new_cells) asked in
-      let wrote' = opens.1 in
-      let cells = wrote_cells layer.cells layer.top layer.does law opening_writes new k wrote' ∙ seven_written (layer.cells new) (u.seven u.new) in
-      let empty = opened_masks layer.does masks (λ a b t op share d. (exact a b t op share d).left) new k refl wrote' in
-      let (n, run) = made_run k s es cells empty free same in
+  pub comes : {rows roles : List ℕ} {es : List Made} {P : State → Type 0} →
+      ◌≡◌ {A = Option Refusal × Bool × List Made} (open_refusal 15 1 (closed rows) roles, all_unrefused es, (computed (opened_to roles (closed rows)) es).0) (None, true, es) →
+      P (computed (opened_to roles (closed rows)) es).1.state → Comes mem rows roles es P
+  comes {rows} {roles} {es} is holds =
+      let (b, cells) = store_of zeros refl refl in
+      let asked = wider_opening limit u.large rows roles (λ i. (is i).0) in
+      let (z, k, opens, each) = each_opens layer total law (λ n. u.seven n.below) (closed rows) (uncopied b) roles (sym cells) asked in
+      let start = ap (λ (r : Result (Unit {0}) Refusal × Counted). r.1) (opened_exactly mem one None (closed rows) z (uncopied b) k roles (Ok tt) opens) in
+      let (n, run) = computed_run (opened_to roles (closed rows)) z k es (each (calls_of es)) start (λ i. (is i).1) (λ i. (is i).2) in
       record {
-        memory = new;
-        new_cells = u.new_cells;
+        memory = uncopied b;
+        new_cells = cells;
         no_copies = refl;
-        start = s;
+        start = z;
         start_memory = k;
-        opens = subst (λ o. Opens layer.does o (closed rows) new roles (Ok tt) s k) (sym asked) (refl, wrote', refl);
+        opens = subst (λ o. Opens layer.does o (closed rows) (uncopied b) roles (Ok tt) z k) (sym asked) opens;
         end = _;
         end_memory = n;
         run = run;

@@ -1,68 +1,68 @@
--- The cases, shown by computing, over the cache layer on any memory like Words and Packed.
-use Rattle.std.proofs.Common.{refl}
-use Rattle.memory.specs.declared.interface.Memory.{Ghosts}
+-- The cases, shown by computing, over the cache layer on any store like Words and Packed.
+use Rattle.std.proofs.Common.{ℕ, List, refl}
 use Rattle.lock.specs.AnswerCases.{AnswerCases, OpenCases}
 use Rattle.lock.specs.AloneCases.{AloneCases}
 use Rattle.lock.specs.QuestionCases.{CheckCases, QuestionCases}
 use Rattle.lock.specs.WaitingCases.{WaitingCases}
-use Rattle.lock.proofs.CaseRuns.{CaseMemory, comes, comes_from}
+use Rattle.lock.proofs.Answering.{Store, stored}
+use Rattle.lock.proofs.CaseRuns.{comes, comes_from}
 
-module _ {B : Type 0} (mem : Ghosts B) (u : CaseMemory mem) where
-  pub alone : AloneCases mem
+module _ {S : Type 0} {limit : ℕ} {numbers : S → List ℕ} (u : Store limit numbers) where
+  pub alone : AloneCases (stored limit numbers)
   alone =
       record {
-        opened = comes mem u _ _ _ _ refl refl refl refl;
-        reader = comes mem u _ _ _ _ refl refl refl (refl, refl, refl);
-        reader_leaves = comes mem u _ _ _ _ refl refl refl ((refl, refl, refl), refl);
-        upgraded = comes mem u _ _ _ _ refl refl refl ((refl, refl, refl), refl);
-        upgraded_leaves = comes mem u _ _ _ _ refl refl refl ((refl, refl, refl), refl);
-        writer = comes mem u _ _ _ _ refl refl refl ((refl, refl, refl), refl);
-        writer_leaves = comes mem u _ _ _ _ refl refl refl ((refl, refl, refl), refl);
-        downgraded = comes mem u _ _ _ _ refl refl refl ((refl, refl, refl), refl);
-        downgraded_leaves = comes mem u _ _ _ _ refl refl refl ((refl, refl, refl), refl);
+        opened = comes u refl refl;
+        reader = comes u refl (refl, refl, refl);
+        reader_leaves = comes u refl ((refl, refl, refl), refl);
+        upgraded = comes u refl ((refl, refl, refl), refl);
+        upgraded_leaves = comes u refl ((refl, refl, refl), refl);
+        writer = comes u refl ((refl, refl, refl), refl);
+        writer_leaves = comes u refl ((refl, refl, refl), refl);
+        downgraded = comes u refl ((refl, refl, refl), refl);
+        downgraded_leaves = comes u refl ((refl, refl, refl), refl);
       }
 
-  pub waiting : WaitingCases mem
+  pub waiting : WaitingCases (stored limit numbers)
   waiting =
       record {
-        before_swap = comes mem u _ _ _ _ refl refl refl ((refl, refl, refl), (refl, refl, refl));
-        upgrade_first = comes mem u _ _ _ _ refl refl refl (refl, refl, refl);
-        reader_waits = comes mem u _ _ _ _ refl refl refl ((refl, refl, refl), (refl, refl, refl));
-        reader_comes_in = comes mem u _ _ _ _ refl refl refl (refl, refl, refl);
-        reader_first = comes mem u _ _ _ _ refl refl refl (refl, refl, refl);
-        turned_down_at_once = comes mem u _ _ _ _ refl refl refl (refl, refl, refl);
-        turned_down_at_27p3 = comes mem u _ _ _ _ refl refl refl (refl, refl, refl);
-        reader_after_writer_waits = comes mem u _ _ _ _ refl refl refl (refl, refl, refl);
-        reader_after_writer = comes mem u _ _ _ _ refl refl refl (refl, refl, refl);
-        writer_after_reader_waits = comes mem u _ _ _ _ refl refl refl (refl, refl, refl);
-        writer_after_reader = comes mem u _ _ _ _ refl refl refl (refl, refl, refl);
-        writer_after_writer_waits = comes mem u _ _ _ _ refl refl refl ((refl, refl, refl), refl);
-        writer_after_writer = comes mem u _ _ _ _ refl refl refl ((refl, refl, refl), refl);
+        before_swap = comes u refl ((refl, refl, refl), (refl, refl, refl));
+        upgrade_first = comes u refl (refl, refl, refl);
+        reader_waits = comes u refl ((refl, refl, refl), (refl, refl, refl));
+        reader_comes_in = comes u refl (refl, refl, refl);
+        reader_first = comes u refl (refl, refl, refl);
+        turned_down_at_once = comes u refl (refl, refl, refl);
+        turned_down_at_27p3 = comes u refl (refl, refl, refl);
+        reader_after_writer_waits = comes u refl (refl, refl, refl);
+        reader_after_writer = comes u refl (refl, refl, refl);
+        writer_after_reader_waits = comes u refl (refl, refl, refl);
+        writer_after_reader = comes u refl (refl, refl, refl);
+        writer_after_writer_waits = comes u refl ((refl, refl, refl), refl);
+        writer_after_writer = comes u refl ((refl, refl, refl), refl);
       }
 
-  pub answers : AnswerCases mem
+  pub answers : AnswerCases (stored limit numbers)
   answers =
       record {
-        shut = comes_from mem u _ _ _ refl refl refl refl refl;
-        by_task = comes mem u _ _ _ _ refl refl refl ((refl, refl, refl), refl);
-        by_pass = comes mem u _ _ _ _ refl refl refl ((refl, refl, refl), refl);
-        by_writer = comes mem u _ _ _ _ refl refl refl refl;
-        by_reader = comes mem u _ _ _ _ refl refl refl refl;
-        damaged = comes mem u _ _ _ _ refl refl refl refl;
-        finished = comes_from mem u _ _ _ refl refl refl refl ((refl, refl, refl), refl);
-        upgrades_spent = comes_from mem u _ _ _ refl refl refl refl ((refl, refl, refl), refl);
+        shut = comes_from u refl refl;
+        by_task = comes u refl ((refl, refl, refl), refl);
+        by_pass = comes u refl ((refl, refl, refl), refl);
+        by_writer = comes u refl refl;
+        by_reader = comes u refl refl;
+        damaged = comes u refl refl;
+        finished = comes_from u refl ((refl, refl, refl), refl);
+        upgrades_spent = comes_from u refl ((refl, refl, refl), refl);
       }
 
-  pub questions : QuestionCases mem
+  pub questions : QuestionCases (stored limit numbers)
   questions =
       record {
-        shut = comes_from mem u _ _ _ refl refl refl refl (((_, refl, refl), (_, refl, refl), (_, refl, refl)), (_, refl, refl), (_, refl, refl), (_, refl, refl));
-        reader_costs_most = comes mem u _ _ _ _ refl refl refl ((refl, refl, refl), (refl, refl, refl), refl);
-        writer_costs_most = comes mem u _ _ _ _ refl refl refl ((refl, refl, refl), (refl, refl, refl), refl);
-        equal_costs = comes mem u _ _ _ _ refl refl refl refl;
-        second_account = comes mem u _ _ _ _ refl refl refl (refl, refl, refl);
-        cells = comes mem u _ _ _ _ refl refl refl (refl, (_, refl, refl));
-        no_task = comes mem u _ _ _ _ refl refl refl (((_, refl, refl), (_, refl, refl), (_, refl, refl)), ((_, refl, refl), (_, refl, refl), (_, refl, refl)));
+        shut = comes_from u refl (((_, refl, refl), (_, refl, refl), (_, refl, refl)), (_, refl, refl), (_, refl, refl), (_, refl, refl));
+        reader_costs_most = comes u refl ((refl, refl, refl), (refl, refl, refl), refl);
+        writer_costs_most = comes u refl ((refl, refl, refl), (refl, refl, refl), refl);
+        equal_costs = comes u refl refl;
+        second_account = comes u refl (refl, refl, refl);
+        cells = comes u refl (refl, (_, refl, refl));
+        no_task = comes u refl (((_, refl, refl), (_, refl, refl), (_, refl, refl)), ((_, refl, refl), (_, refl, refl), (_, refl, refl)));
       }
 
 pub opening : OpenCases

@@ -1,5 +1,5 @@
 -- Which copies a task holds, read from the masks of the cache layer, and what a deed makes of them and charges in units.
-use Rattle.std.proofs.Common.{◌≡◌, ℕ, ◌-◌, ◌*◌, ◌/◌, ◌^◌, ◌<◌, ◌≤◌, true, false, cond, eqb, ◌≢◌, List, length, get_or, set, refl, sym, ap, ◌∙◌, inl, inr, arith, [], ◌∷◌}
+use Rattle.std.proofs.Common.{◌≡◌, ℕ, ◌-◌, ◌*◌, ◌/◌, ◌^◌, ◌<◌, ◌≤◌, true, false, cond, eqb, ◌≢◌, List, length, get_or, set, refl, sym, ap, ◌∙◌, inl, inr, arith}
 use native.Mathlib.Nat.{zero-div}
 use Rattle.std.proofs.lemmas.Bool.{cases_eq, cases_Bool, eq-eqb, ne_eqb}
 use Rattle.std.proofs.lemmas.List.{get_or-set_same, get_or-set_other, length-set}
@@ -7,24 +7,24 @@ use Rattle.std.specs.Prelude.{MatchBool}
 use Rattle.sets.specs.Sets.{holds, joined}
 use Rattle.sets.proofs.Put.{joins}
 use Rattle.memory.specs.declared.operation.Operation.{Operation}
-use Rattle.memory.specs.declared.operation.Operation.TheVariants.{Read, Write, Add, Swap}
+use Rattle.memory.specs.declared.operation.Operation.TheVariants.{Read}
 use Rattle.memory.specs.declared.interface.Memory.{Ghosts}
 use Rattle.memory.specs.Calls.{Doing, Kept}
 use Rattle.memory.specs.Cells.{zeros}
 use Rattle.memory.specs.Operations.{cell_of}
 use Rattle.cache.specs.Layers.{cached}
-use Rattle.cache.specs.Copies.{Cached, Empties}
+use Rattle.cache.specs.Copies.{Cached}
 use Rattle.lines.specs.declared.deed.Deed.{Deed}
-use Rattle.lines.specs.declared.deed.Deed.TheVariants.{Touch, Join, First, Quit, Nothing}
+use Rattle.lines.specs.declared.deed.Deed.TheVariants.{Touch}
 use Rattle.lines.specs.declared.place.Line.{Line}
-use Rattle.lines.specs.declared.place.Line.TheVariants.{L0p1, L0p2, L2, L10, L19, L32p1}
+use Rattle.lines.specs.declared.place.Line.TheVariants.{L2}
 use Rattle.lines.specs.declared.track.Track.{Track}
 use Rattle.lines.specs.Lines.{deed_of}
 use Rattle.calls.specs.Steps.{Shares}
 use Rattle.calls.specs.Opening.{Wrote, opening_writes}
 use Rattle.lock.specs.Copying.{ChargesByCopies}
 use Rattle.lock.specs.Counted.{CostsOne, masks_after, unit_share}
-use Rattle.lock.proofs.Opened.{seven_of}
+use Rattle.lock.proofs.Opened.{afters, seven_of, wrote_so}
 use Rattle.lock.proofs.Costs.{Units, charge, other_copies, own_copies, purse}
 
 -- 1 where task t holds a copy of cell k, else 0
@@ -34,39 +34,20 @@ flag masks t k = cond (holds (get_or masks k 0) t) 1 0
 -- a deed that touches a cell touches one of the seven
 abbrev pub TouchesKnown : Deed → Type 0
 TouchesKnown (Touch op) = cell_of op < 7
-TouchesKnown Join = Unit {0}
-TouchesKnown First = Unit {0}
-TouchesKnown Quit = Unit {0}
-TouchesKnown Nothing = Unit {0}
+TouchesKnown d = Unit {0}
 
 pub touches_known : (l : Line) (t : ℕ) (r : Track) → TouchesKnown (deed_of l t r)
-touches_known L0p1 t r = tt
-touches_known L0p2 t r = tt
 touches_known L2 t r = tt
-touches_known L10 t r = tt
-touches_known L19 t r = tt
-touches_known L32p1 t r = tt
-touches_known l t r = omega arith
+touches_known l t r = grind arith
 
 pub length-masks_after : (d : Deed) (t : ℕ) (masks : List ℕ) → length (masks_after d t masks) ≡ length masks
 length-masks_after (Touch (Read c)) t masks = elim (cases_Bool (holds (get_or masks c 0) t)) [ inl held ↦ rw held | inr free ↦ rw free (length-set masks c _) ]
-length-masks_after (Touch (Write c n)) t masks = length-set masks c 0
-length-masks_after (Touch (Add c s)) t masks = length-set masks c 0
-length-masks_after (Touch (Swap c e n)) t masks = length-set masks c 0
-length-masks_after Join t masks = refl
-length-masks_after First t masks = refl
-length-masks_after Quit t masks = refl
-length-masks_after Nothing t masks = refl
+length-masks_after (Touch op) t masks = length-set masks (cell_of op) 0
+length-masks_after d t masks = refl
 
 pub unit_share-charge : (d : Deed) (t : ℕ) (masks : List ℕ) → unit_share d t masks ≡ charge d (flag masks t)
 unit_share-charge (Touch (Read c)) t masks = elim (cases_Bool (holds (get_or masks c 0) t)) [ inl held ↦ rw held | inr free ↦ rw free ]
-unit_share-charge (Touch (Write c n)) t masks = refl
-unit_share-charge (Touch (Add c s)) t masks = refl
-unit_share-charge (Touch (Swap c e n)) t masks = refl
-unit_share-charge Join t masks = refl
-unit_share-charge First t masks = refl
-unit_share-charge Quit t masks = refl
-unit_share-charge Nothing t masks = refl
+unit_share-charge d t masks = refl
 
 holds_none : (t : ℕ) → holds 0 t ≡ false
 holds_none t = let e : 0 / 2 ^ (t - 1) ≡ 0 = zero-div (2 ^ (t - 1)) in rw e
@@ -87,26 +68,16 @@ module _ (masks : List ℕ) (seven : length masks ≡ 7) where
     | inl held ↦ rw held (elim (cases_eq c k) [ inl same ↦ rw (eq-eqb c k same, ← same, held) | inr other ↦ rw (ne_eqb c k other) ])
     | inr free ↦ rw free (flag-set c (joined (get_or masks c 0) t) t k known ∙ rw ((joins (get_or masks c 0) t h).0))
   ]
-  flag_own (Touch (Write c n)) t k known h = flag_emptied c t k known
-  flag_own (Touch (Add c s)) t k known h = flag_emptied c t k known
-  flag_own (Touch (Swap c e n)) t k known h = flag_emptied c t k known
-  flag_own Join t k known h = refl
-  flag_own First t k known h = refl
-  flag_own Quit t k known h = refl
-  flag_own Nothing t k known h = refl
+  flag_own (Touch op) t k known h = flag_emptied (cell_of op) t k known
+  flag_own d t k known h = refl
 
   pub flag_other : (d : Deed) (t u k : ℕ) → TouchesKnown d → 1 ≤ t → 1 ≤ u → u ≢ t → flag (masks_after d t masks) u k ≡ other_copies d (flag masks u) k
   flag_other (Touch (Read c)) t u k known h j apart = elim (cases_Bool (holds (get_or masks c 0) t)) [
     | inl held ↦ rw held
     | inr free ↦ rw free (flag-set c (joined (get_or masks c 0) t) u k known ∙ rw ((joins (get_or masks c 0) t h).1 u j apart) (elim (cases_eq c k) [ inl same ↦ rw (eq-eqb c k same, ← same) | inr other ↦ rw (ne_eqb c k other) ]))
   ]
-  flag_other (Touch (Write c n)) t u k known h j apart = flag_emptied c u k known
-  flag_other (Touch (Add c s)) t u k known h j apart = flag_emptied c u k known
-  flag_other (Touch (Swap c e n)) t u k known h j apart = flag_emptied c u k known
-  flag_other Join t u k known h j apart = refl
-  flag_other First t u k known h j apart = refl
-  flag_other Quit t u k known h j apart = refl
-  flag_other Nothing t u k known h j apart = refl
+  flag_other (Touch op) t u k known h j apart = flag_emptied (cell_of op) u k known
+  flag_other d t u k known h j apart = refl
 
 -- the same of a purse, which looks at three cells
 
@@ -128,9 +99,6 @@ ChargedByUnits d t ceiling masks share ceiling' masks' = Charged ceiling (unit_s
 
 -- the cache layer charges each operation so, over any memory
 module _ {S : Type 0} (cells : S → List ℕ) (top : S → ℕ) (does : Doing S) (law : (s t : S) (task : ℕ) (op : Operation) (share : ℕ) → does s task op share t → Kept cells top s op share t) where
-  emptied : (s t : S) (masks masks' : List ℕ) (task c : ℕ) (op : Operation) (share : ℕ) → Empties does s masks task op c share t masks' → Charged (top s) 1 (set masks c 0) share (top t) masks'
-  emptied s t masks masks' task c op share d = let kept = law s t task op share d.0 in record { within = omega arith; left = d.1; same_ceiling = kept.2 }
-
   pub cached_charged : (s t : S) (masks masks' : List ℕ) (task : ℕ) (op : Operation) (share : ℕ) → Cached does s masks task op share t masks' → ChargedByUnits (Touch op) task (top s) masks share (top t) masks'
   cached_charged s t masks masks' task (Read c) share d =
       let more = set masks c (joined (get_or masks c 0) task) in
@@ -138,9 +106,7 @@ module _ {S : Type 0} (cells : S → List ℕ) (top : S → ℕ) (does : Doing S
         | true ↦ λ e. record { within = omega arith; left = e.2; same_ceiling = ap top e.1 }
         | false ↦ λ e. let kept = law s t task (Read c) share e.0 in record { within = omega arith; left = e.1; same_ceiling = kept.2 }
       ]) d
-  cached_charged s t masks masks' task (Write c n) share d = emptied s t masks masks' task c (Write c n) share d
-  cached_charged s t masks masks' task (Add c p) share d = emptied s t masks masks' task c (Add c p) share d
-  cached_charged s t masks masks' task (Swap c e n) share d = emptied s t masks masks' task c (Swap c e n) share d
+  cached_charged s t masks masks' task op share d = let kept = law s t task op share d.0 in record { within = omega arith; left = d.1; same_ceiling = kept.2 }
 
 -- so it charges by copies
 pub cached_by_copies : {B : Type 0} (mem : Ghosts B) → ((s t : B) (task : ℕ) (op : Operation) (share : ℕ) → mem.does s task op share t → Kept mem.cells mem.top s op share t) → ChargesByCopies (cached mem) (λ m. m.copies.masks)
@@ -153,15 +119,9 @@ cached_by_copies mem law =
 
 -- a memory that charges each operation so charges each deed of a line so
 module _ {M : Type 0} (does : Doing M) (masks : M → List ℕ) (top : M → ℕ) (law : (m n : M) (t : ℕ) (op : Operation) (share : ℕ) → does m t op share n → ChargedByUnits (Touch op) t (top m) (masks m) share (top n) (masks n)) where
-  untouched : (m n : M) (share : ℕ) → (share ≡ 0) × (n ≡ m) → Charged (top m) 0 (masks m) share (top n) (masks n)
-  untouched m n share e = record { within = omega arith; left = ap masks e.1; same_ceiling = ap top e.1 }
-
   pub deed_charged : (d : Deed) (m n : M) (t share : ℕ) → Shares does m t d share n → ChargedByUnits d t (top m) (masks m) share (top n) (masks n)
   deed_charged (Touch op) m n t share e = law m n t op share e
-  deed_charged Join m n t share e = untouched m n share e
-  deed_charged First m n t share e = untouched m n share e
-  deed_charged Quit m n t share e = untouched m n share e
-  deed_charged Nothing m n t share e = untouched m n share e
+  deed_charged d m n t share e = record { within = omega arith; left = ap masks e.1; same_ceiling = ap top e.1 }
 
 -- Where each operation below costs 1, the charge is the units.
 
@@ -180,30 +140,16 @@ module _ {S : Type 0} (does : Doing S) (one : CostsOne does) where
         | true ↦ λ e. record { paid = e.0; left = e.2 }
         | false ↦ λ e. record { paid = one s t task (Read c) share e.0; left = e.1 }
       ]) d
-  cached_exact s t masks masks' task (Write c n) share d = record { paid = one s t task (Write c n) share d.0; left = d.1 }
-  cached_exact s t masks masks' task (Add c p) share d = record { paid = one s t task (Add c p) share d.0; left = d.1 }
-  cached_exact s t masks masks' task (Swap c e n) share d = record { paid = one s t task (Swap c e n) share d.0; left = d.1 }
+  cached_exact s t masks masks' task op share d = record { paid = one s t task op share d.0; left = d.1 }
 
 module _ {M : Type 0} (does : Doing M) (masks : M → List ℕ) (law : (m n : M) (t : ℕ) (op : Operation) (share : ℕ) → does m t op share n → ExactUnits (Touch op) t (masks m) share (masks n)) where
-  untouched_exact : (m n : M) (share : ℕ) → (share ≡ 0) × (n ≡ m) → Exact 0 (masks m) share (masks n)
-  untouched_exact m n share e = record { paid = e.0; left = ap masks e.1 }
-
   pub deed_exact : (d : Deed) (m n : M) (t share : ℕ) → Shares does m t d share n → ExactUnits d t (masks m) share (masks n)
   deed_exact (Touch op) m n t share e = law m n t op share e
-  deed_exact Join m n t share e = untouched_exact m n share e
-  deed_exact First m n t share e = untouched_exact m n share e
-  deed_exact Quit m n t share e = untouched_exact m n share e
-  deed_exact Nothing m n t share e = untouched_exact m n share e
+  deed_exact d m n t share e = record { paid = e.0; left = ap masks e.1 }
 
 -- Opening writes every cell, so nobody holds a copy then: over any memory that leaves the masks so.
 module _ {M : Type 0} (does : Doing M) (masks : M → List ℕ) (leaves : (m n : M) (t : ℕ) (op : Operation) (share : ℕ) → does m t op share n → masks n ≡ masks_after (Touch op) t (masks m)) where
-  abbrev wiped : List Operation → List ℕ → List ℕ
-  wiped [] ms = ms
-  wiped (op ∷ ops) ms = wiped ops (masks_after (Touch op) 1 ms)
-
-  pub wrote_masks : (ops : List Operation) (m n : M) → Wrote does m ops n → masks n ≡ wiped ops (masks m)
-  wrote_masks [] m n w = ap masks w
-  wrote_masks (op ∷ ops) m n (k, share, d, w) = wrote_masks ops k n w ∙ ap (wiped ops) (leaves m k 1 op share d)
-
   pub opened_masks : (m n : M) → length (masks m) ≡ 7 → Wrote does m opening_writes n → masks n ≡ zeros
-  opened_masks m n seven w = wrote_masks opening_writes m n w ∙ ap (wiped opening_writes) (seven_of (masks m) seven)
+  opened_masks m n seven w =
+      let step = λ (op : Operation). masks_after (Touch op) 1 in
+      wrote_so does masks step (λ m n op share d. leaves m n 1 op share d) opening_writes m n w ∙ ap (afters step opening_writes) (seven_of (masks m) seven)

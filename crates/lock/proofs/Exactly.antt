@@ -1,52 +1,68 @@
 -- Over the cache layer, where each operation below costs 1, calls come to what the one function says, from every state.
-use Rattle.std.proofs.Common.{◌≡◌, ℕ, List, Some, None, Option, Result, refl, ap, subst, ◌∙◌}
+use Rattle.std.proofs.Common.{◌≡◌, ℕ, List, [], ◌∷◌, map, Some, None, Option, Result, ap, ◌∙◌}
 use Rattle.cache.specs.declared.layer.Cache.{Cache}
 use Rattle.cache.specs.Layers.{cached}
 use Rattle.memory.specs.declared.interface.Memory.{Ghosts as MemoryGhosts}
+use Rattle.memory.specs.declared.operation.Operation.{Operation}
 use Rattle.queue.specs.declared.interface.Queue.{Ghosts as QueueGhosts}
 use Rattle.lines.specs.declared.deed.Deed.{Deed}
+use Rattle.lines.specs.declared.deed.Deed.TheVariants.{Touch}
 use Rattle.lines.specs.Lines.{next_deed}
 use Rattle.calls.specs.declared.record.Record.{Record}
 use Rattle.calls.specs.declared.refusal.Refusal.{Refusal}
 use Rattle.calls.specs.Opening.{Opens, open_refusal}
 use Rattle.calls.specs.States.{State}
-use Rattle.calls.specs.Steps.{Answer, Call, Carried, LineShares, Verdict, at_once, carry_out, deed_refusal, judge, line, lined, refuse}
+use Rattle.calls.specs.Steps.{Answer, Call, Carried, LineShares, Verdict, after_deed, deed_refusal, done, judge, line, lined, no}
 use Rattle.lock.specs.declared.locks.Lock.{Lock}
 use Rattle.lock.specs.ByTask.{Follows, Plan, ends, makes}
-use Rattle.lock.specs.Counted.{CostsOne, Counted, unit_share}
-use Rattle.lock.specs.Exact.{exact, exact_opening, followed, line_masks, opens_exactly, seen, verdict_masks, verdict_share}
+use Rattle.lock.specs.Counted.{CostsOne, Counted}
+use Rattle.lock.specs.Exact.{exact, exact_line, exact_opening, exact_run, exact_verdict, followed, made_then, opens_exactly, seen, seen_at}
+use Rattle.lock.specs.Runs.{Made, Run}
 use Rattle.lock.specs.View.{Does, Opened, view}
 use Rattle.lock.proofs.Copies.{ExactUnits, cached_exact, deed_exact, opened_masks}
 
-module _ {B Q : Type 0} (mem : MemoryGhosts B) (que : QueueGhosts Q) (one : CostsOne mem.does) where
-  masks_of : Cache B → List ℕ
+module _ {B : Type 0} (mem : MemoryGhosts B) (one : CostsOne mem.does) where
+  abbrev masks_of : Cache B → List ℕ
   masks_of m = m.copies.masks
 
-  abbrev seen_at : State → Cache B → Counted
-  seen_at s m = record { state = s; masks = m.copies.masks }
+  -- the cache layer charges an operation its units
+  law : (m n : Cache B) (t : ℕ) (op : Operation) (share : ℕ) → (cached mem).does m t op share n → ExactUnits (Touch op) t (masks_of m) share (masks_of n)
+  law m n t op share h = cached_exact mem.does one m.below n.below m.copies.masks n.copies.masks t op share h
 
-  deed_told : (d : Deed) (m n : Cache B) (t share : ℕ) → LineShares (cached mem).does None m t d share n → ExactUnits d t m.copies.masks share n.copies.masks
-  deed_told d m n t share told = deed_exact (cached mem).does (λ (m : Cache B). m.copies.masks) (λ m n t op share h. cached_exact mem.does one m.below n.below m.copies.masks n.copies.masks t op share h) d m n t share told
+  -- a line, a verdict
+  line_exactly : (why : Option Refusal) (t : ℕ) (r : Record) (d : Deed) (s : State) (m n : Cache B) (share : ℕ) → LineShares (cached mem).does why m t d share n →
+      ◌≡◌ {A = Answer × Counted} ((lined why t r d share s).0, seen_at (lined why t r d share s).1 n) (exact_line why t r d (seen_at s m))
+  line_exactly None t r d s m n share h = let e = deed_exact (cached mem).does masks_of law d m n t share h in λ i. (done, record { state = after_deed t r d (e.paid i) s; masks = e.left i })
+  line_exactly (Some e) t r d s m n share h = λ i. (no e, seen_at s (h.1 i))
 
-  line_told : (why : Option Refusal) (t : ℕ) (r : Record) (d : Deed) (s : State) (m n : Cache B) (share : ℕ) → LineShares (cached mem).does why m t d share n →
-      (lined why t r d share s ≡ lined why t r d (unit_share d t m.copies.masks) s) × (n.copies.masks ≡ line_masks why d t m.copies.masks)
-  line_told None t r d s m n share told = let e = deed_told d m n t share told in (ap (λ k. lined None t r d k s) e.paid, e.left)
-  line_told (Some e) t r d s m n share told = (refl, ap (λ (m : Cache B). m.copies.masks) told.1)
-
-  carried_exactly : (v : Verdict) (s z : State) (m n : Cache B) (a : Answer) → Carried (cached mem).does mem.limit v s m a z n →
-      ◌≡◌ {A = Answer × Counted} (a, seen_at z n) ((carry_out mem.limit v (verdict_share v (seen_at s m)) s).0, record { state = (carry_out mem.limit v (verdict_share v (seen_at s m)) s).1; masks = verdict_masks mem.limit v (seen_at s m) })
-  carried_exactly (refuse e) s z m n a (share, told, answers, leaves) = λ i. (answers i, record { state = leaves i; masks = (told.1 i).copies.masks })
-  carried_exactly (at_once b w) s z m n a (share, told, answers, leaves) = λ i. (answers i, record { state = leaves i; masks = (told.1 i).copies.masks })
+  carried_exactly : (v : Verdict) (s z : State) (m n : Cache B) (a : Answer) → Carried (cached mem).does mem.limit v s m a z n → ◌≡◌ {A = Answer × Counted} (a, seen_at z n) (exact_verdict mem.limit v (seen_at s m))
   carried_exactly (line t r) s z m n a (share, told, answers, leaves) =
       let d = next_deed t r.track in
-      let e = line_told (deed_refusal mem.limit t d s.cells s.waiting) t r d s m n share told in
-      let answer = answers ∙ ap (λ (p : Answer × State). p.0) e.0 in
-      let state = leaves ∙ ap (λ (p : Answer × State). p.1) e.0 in
-      λ i. (answer i, record { state = state i; masks = e.1 i })
+      (λ i. (answers i, seen_at (leaves i) n)) ∙ line_exactly (deed_refusal mem.limit t d s.cells s.waiting) t r d s m n share told
+  carried_exactly v s z m n a (share, told, answers, leaves) = λ i. (answers i, seen_at (leaves i) (told.1 i))
 
+  -- a run
+  pub runs_exactly : (es : List Made) (s z : State) (m n : Cache B) → Run (cached mem).does mem.limit es s m z n →
+      ◌≡◌ {A = List Made × Counted} (es, seen_at z n) (exact_run mem.limit (map (λ (e : Made). e.call) es) (seen_at s m))
+  runs_exactly [] s z m n (p, same, k) = λ i. ([], seen_at (same i) (k i))
+  runs_exactly (e ∷ es) s z m n (p, (y, k, call, run)) =
+      ap (made_then e.call e.answer) (runs_exactly es y z k n run)
+      ∙ ap (λ (r : Answer × Counted). made_then e.call r.0 (exact_run mem.limit (map (λ (e : Made). e.call) es) r.1)) (carried_exactly (judge e.call s) s y m k e.answer call)
+
+  -- an opening
+  pub opened_exactly : (o : Option Refusal) (s z : State) (m n : Cache B) (roles : List ℕ) (r : Result (Unit {0}) Refusal) → Opens (cached mem).does o s m roles r z n →
+      ◌≡◌ {A = Result (Unit {0}) Refusal × Counted} (r, seen_at z n) (opens_exactly o roles (seen_at s m))
+  opened_exactly None s z m n roles r (ok, wrote, left) =
+      let empty = opened_masks (cached mem).does masks_of (λ m n t op share d. (law m n t op share d).left) m n m.copies.seven wrote in
+      λ i. (ok i, record { state = left i; masks = empty i })
+  opened_exactly (Some e) s z m n roles r (err, left, kept) = λ i. (err i, seen_at (left i) (kept i))
+
+-- the same of a lock
+
+module _ {B Q : Type 0} (mem : MemoryGhosts B) (que : QueueGhosts Q) (one : CostsOne mem.does) where
   -- one call
   pub does_exactly : (c : Call) (a : Answer) (l l' : Lock (Cache B) Q) → Does (cached mem) que c l a l' → ◌≡◌ {A = Answer × Counted} (a, seen mem que l') (exact mem.limit c (seen mem que l))
-  does_exactly c a l l' d = carried_exactly (judge c (view (cached mem) que l)) (view (cached mem) que l) (view (cached mem) que l') l.memory l'.memory a d.0
+  does_exactly c a l l' d = carried_exactly mem one (judge c (view (cached mem) que l)) (view (cached mem) que l) (view (cached mem) que l') l.memory l'.memory a d.0
 
   -- a plan
   pub follows_exactly : (p : Plan) (a : Answer) (l l' : Lock (Cache B) Q) → Follows (cached mem) que p l a l' → ◌≡◌ {A = Answer × Counted} (a, seen mem que l') (followed mem.limit p (seen mem que l))
@@ -59,12 +75,5 @@ module _ {B Q : Type 0} (mem : MemoryGhosts B) (que : QueueGhosts Q) (one : Cost
       ◌≡◌ {A = Result (Unit {0}) Refusal × Counted} (r, seen mem que l') (exact_opening mem.limit roles (seen mem que l))
   opens_to top roles r l l' (opens, same) =
       let s = view (cached mem) que l in
-      let why : open_refusal mem.limit (mem.top l.memory.below) s roles ≡ open_refusal mem.limit 1 s roles = ap (λ n. open_refusal mem.limit n s roles) (top l.memory.below) in
-      opened_so (open_refusal mem.limit 1 s roles) (subst (λ o. Opens (cached mem).does o s l.memory roles r (view (cached mem) que l') l'.memory) why opens)
-    where
-      opened_so : (o : Option Refusal) → Opens (cached mem).does o (view (cached mem) que l) l.memory roles r (view (cached mem) que l') l'.memory →
-          ◌≡◌ {A = Result (Unit {0}) Refusal × Counted} (r, seen mem que l') (opens_exactly o roles (seen mem que l))
-      opened_so None (ok, wrote, left) =
-          let empty = opened_masks (cached mem).does (λ (m : Cache B). m.copies.masks) (λ m n t op share d. (cached_exact mem.does one m.below n.below m.copies.masks n.copies.masks t op share d).left) l.memory l'.memory l.memory.copies.seven wrote in
-          λ i. (ok i, record { state = left i; masks = empty i })
-      opened_so (Some e) (err, left, kept) = λ i. (err i, record { state = left i; masks = (kept i).copies.masks })
+      opened_exactly mem one (open_refusal mem.limit (mem.top l.memory.below) s roles) s (view (cached mem) que l') l.memory l'.memory roles r opens
+      ∙ ap (λ n. opens_exactly (open_refusal mem.limit n s roles) roles (seen mem que l)) (top l.memory.below)

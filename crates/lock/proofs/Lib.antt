@@ -23,7 +23,6 @@ pub mod Promised
 pub mod Costs
 pub mod Copies
 pub mod CostRuns
-pub mod ExactRuns
 pub mod Answering
 pub mod CaseRuns
 pub mod Computed

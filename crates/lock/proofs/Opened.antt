@@ -47,30 +47,31 @@ pub open_with : (rs : List Record) (roles : List ℕ) → rs ≡ map enlisted ro
 open_with rs [] is some = absurd (omega (arith, some))
 open_with rs (b ∷ bs) is some = ap (λ xs. ltb 0 (length xs)) is ∙ lt-ltb 0 _ (omega arith)
 
--- the cells that the opening writes make of any seven
-
-abbrev pub afters : List Operation → List ℕ → List ℕ
-afters [] xs = xs
-afters (op ∷ ops) xs = afters ops (after op xs)
+-- what operations make of something, by what one makes of it
+abbrev pub afters : {X : Type 0} → (Operation → X → X) → List Operation → X → X
+afters step [] x = x
+afters step (op ∷ ops) x = afters step ops (step op x)
 
 -- seven numbers are those in the seven places
 pub seven_of : (xs : List ℕ) → length xs ≡ 7 → xs ≡ get_or xs 0 0 ∷ get_or xs 1 0 ∷ get_or xs 2 0 ∷ get_or xs 3 0 ∷ get_or xs 4 0 ∷ get_or xs 5 0 ∷ get_or xs 6 0 ∷ []
 seven_of (a ∷ b ∷ c ∷ d ∷ f ∷ g ∷ h ∷ []) e = refl
 seven_of xs e = absurd (omega arith)
 
-pub seven_written : (xs : List ℕ) → length xs ≡ 7 → afters opening_writes xs ≡ opening_cells
-seven_written xs e = ap (afters opening_writes) (seven_of xs e)
+-- what task 1 writes makes that of something in a memory, of which each operation makes this
+pub wrote_so : {M X : Type 0} (does : Doing M) (f : M → X) (step : Operation → X → X) → ((m n : M) (op : Operation) (share : ℕ) → does m 1 op share n → f n ≡ step op (f m)) →
+    (ops : List Operation) (m n : M) → Wrote does m ops n → f n ≡ afters step ops (f m)
+wrote_so does f step law [] m n w = ap f w
+wrote_so does f step law (op ∷ ops) m n (k, share, d, w) = wrote_so does f step law ops k n w ∙ ap (afters step ops) (law m k op share d)
 
 module _ {M : Type 0} (cells : M → List ℕ) (top : M → ℕ) (does : Doing M) (law : (s t : M) (task : ℕ) (op : Operation) (share : ℕ) → does s task op share t → Kept cells top s op share t) where
-  pub wrote_cells : (ops : List Operation) (m n : M) → Wrote does m ops n → cells n ≡ afters ops (cells m)
-  wrote_cells [] m n e = ap cells e
-  wrote_cells (op ∷ ops) m n (k, share, d, w) = wrote_cells ops k n w ∙ ap (afters ops) (law m k 1 op share d).0
+  pub opened_cells : (m n : M) → length (cells m) ≡ 7 → Wrote does m opening_writes n → cells n ≡ opening_cells
+  opened_cells m n seven w = wrote_so does cells after (λ m n op share d. (law m n 1 op share d).0) opening_writes m n w ∙ ap (afters after opening_writes) (seven_of (cells m) seven)
 
   -- task 1 wrote, and the other fields are so
   pub opened_is : (s z : State) (m n : M) (roles : List ℕ) → Wrote does m opening_writes n → z.cells ≡ cells n → length (cells m) ≡ 7 →
       z.number ≡ s.number → z.opened ≡ true → z.waiting ≡ s.waiting → z.records ≡ map enlisted roles → z.table ≡ s.table → z ≡ opened_to roles s
-  opened_is s z m n roles w after seven number opened waiting records table =
-      let cells_are : z.cells ≡ opening_cells = after ∙ wrote_cells opening_writes m n w ∙ seven_written (cells m) seven in
+  opened_is s z m n roles w at seven number opened waiting records table =
+      let cells_are : z.cells ≡ opening_cells = at ∙ opened_cells m n seven w in
       λ i. record { number = number i; opened = opened i; cells = cells_are i; waiting = waiting i; records = records i; table = table i }
 
 -- no question was answered no, and task 1 wrote

@@ -26,7 +26,8 @@ use Rattle.calls.specs.Steps.{Answer, Call, Calls, done, gives, hands, no, read}
 use Rattle.lock.specs.declared.locks.Lock.{Lock}
 use Rattle.lock.specs.Charges.{Charges, Counts, TellsShare}
 use Rattle.lock.specs.Copying.{ChargesByCopies}
-use Rattle.lock.specs.Counted.{CostsOne, counted_run}
+use Rattle.lock.specs.Counted.{CostsOne, Counted}
+use Rattle.lock.specs.Exact.{exact_run}
 use Rattle.lock.specs.History.{history}
 use Rattle.lock.specs.Model.{model_run, unpaid}
 use Rattle.lock.specs.Needs.{AnswersSo, RefusedAsDamaged, Needs}
@@ -170,10 +171,11 @@ module _ {M : Type 0} (does : Doing M) (limit : ℕ) (s : State) (m : M) where
   abbrev pub CostBound : ℕ → Type 0
   CostBound top = Always (λ es z n. (t : ℕ) → 1 ≤ t → (record_of z t).account.cost ≤ top * (20 + 5 * (history t es).upgrades + 2 * (history t es).downgrades))
 
-  -- Exact costs, over the cache layer on a memory whose operations cost 1: but for the answers, state and
-  -- copies are to the unit what the counted calls make of them.
+  -- Exact costs, over the cache layer on a memory whose operations cost 1: answers, state and copies are to the unit what the calls
+  -- alone come to.
   abbrev pub ExactCosts : (M → List ℕ) → Type 0
-  ExactCosts masks = Always (λ es z n. (z ≡ (counted_run (map (λ e. e.call) es) (record { state = s; masks = masks m })).state) × (masks n ≡ (counted_run (map (λ e. e.call) es) (record { state = s; masks = masks m })).masks))
+  ExactCosts masks =
+      Always (λ es z n. ◌≡◌ {A = List Made × Counted} (es, record { state = z; masks = masks n }) (exact_run limit (map (λ e. e.call) es) (record { state = s; masks = masks m })))
 
   -- all that holds over any memory and any queue, of a lock with this number and these rows that was just opened with these roles
   pub record Promised (number : ℕ) (rows roles : List ℕ) : Type 0 where
