@@ -124,13 +124,16 @@ module _ {M Q : Type 0} (mem : MemoryGhosts M) (que : QueueGhosts Q) where
           ap (λ (x : Lock M Q). view mem que x) is
           ∙ back mem.does mem.limit (view mem que q) (view mem que l) n.memory q.memory (view mem que m) w t d went (subst (λ x. Calls mem.does mem.limit (lay_back w l.number t) x n.memory d (view mem que q) q.memory) same laid.0)
 
+      -- so too where a call that spends the pass is refused
       spent_same : (c : Call) (b : Answer) → Does mem que c m b n → Follows mem que (laid_where_refused w l.number t b) n a l' → was_obeyed a ≡ false → view mem que l' ≡ view mem que l
       spent_same c (no x) made rest refused = laid_same (no x) (stays m n c (no x) refl made) rest
       spent_same c b made rest refused = absurd (not_both a b rest.0 refl refused)
 
+    -- a call by task that spends the pass
     pub spending : (w : Right) (c : ℕ → ℕ → Call) → Follows mem que (spends w t c) l a l' → ByPlan mem que (spends w t c) t l a l'
     spending w c = by_plan w (λ k u. makes (c k u) (laid_where_refused w k u)) (λ m went x. spent_same w m went x.1 (c l.number t) x.0 x.2 x.3)
 
+    -- one that shows it
     pub showing : (w : Right) (c : ℕ → ℕ → Call) → Follows mem que (shows w t c) l a l' → ByPlan mem que (shows w t c) t l a l'
     showing w c =
         by_plan w (λ k u. makes (c k u) (laid_back w k u))
@@ -154,6 +157,7 @@ module _ {M Q : Type 0} (mem : MemoryGhosts M) (que : QueueGhosts Q) where
     kept_out (Err x) back did =
         rw back (ap (λ s. pass_refusal s w pass.lock pass.task) (stays m n (c pass.lock pass.task) (no x.why) refl did) ∙ taken_out w t l m pass took)
 
+    -- what was done is a call by task that spends the pass
     pub settled : (made : Result (Unit {0}) (Kept (Pass R))) → IfErr made (λ x. x.pass ≡ pass) → Does mem que (c pass.lock pass.task) m (spent made) n → (a : Answer) (l' : Lock M Q) → Settles mem que w made n a l' → ByPlan mem que (spends w t c) t l a l'
     settled (Ok _) back did a l' told = spending t l a l' w c (hands w pass.lock pass.task, m, took, (done, n, did, told))
     settled (Err x) back did a l' (is, laid) = spending t l a l' w c (hands w pass.lock pass.task, m, took, (no x.why, n, did, (done, l', rw back at laid, (is, refl))))

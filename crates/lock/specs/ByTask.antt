@@ -37,7 +37,7 @@ with_pass w t plan = makes (take w t) (used plan)
 abbrev pub laid_back : Right → ℕ → ℕ → Answer → Plan
 laid_back w k t a = makes (lay_back w k t) (λ _. ends a)
 
--- only where the call was refused, and so gave the pass back
+-- so only where a call that spends the pass was refused, and gave it back
 abbrev pub laid_where_refused : Right → ℕ → ℕ → Answer → Plan
 laid_where_refused w k t (no e) = laid_back w k t (no e)
 laid_where_refused w k t a = ends a
