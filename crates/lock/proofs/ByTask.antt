@@ -149,7 +149,7 @@ module _ {M Q : Type 0} (mem : MemoryGhosts M) (que : QueueGhosts Q) where
   pub taken_out : {R : Type 0} (w : Right) (t : ℕ) (l m : Lock M Q) (pass : Pass R) → Does mem que (take w t) l (hands w pass.lock pass.task) m → IsOut mem que w pass.lock pass.task m
   taken_out w t l m pass took = (taken mem.does mem.limit (view mem que l) (view mem que m) l.memory m.memory w t w pass.lock pass.task took.0).out
 
-  -- A call that spends the pass, and what came of it.
+  -- A pass that was taken, and a call with it.
   module _ {R : Type 0} (w : Right) (t : ℕ) (c : ℕ → ℕ → Call) (l m n : Lock M Q) (pass : Pass R) (took : Does mem que (take w t) l (hands w pass.lock pass.task) m) where
     -- the pass that came back is out
     pub kept_out : (made : Result (Unit {0}) (Kept (Pass R))) → IfErr made (λ x. x.pass ≡ pass) → Does mem que (c pass.lock pass.task) m (spent made) n → IfErr made (λ x. IsOut mem que w x.pass.lock x.pass.task n)
@@ -161,3 +161,7 @@ module _ {M Q : Type 0} (mem : MemoryGhosts M) (que : QueueGhosts Q) where
     pub settled : (made : Result (Unit {0}) (Kept (Pass R))) → IfErr made (λ x. x.pass ≡ pass) → Does mem que (c pass.lock pass.task) m (spent made) n → (a : Answer) (l' : Lock M Q) → Settles mem que w made n a l' → ByPlan mem que (spends w t c) t l a l'
     settled (Ok _) back did a l' told = spending t l a l' w c (hands w pass.lock pass.task, m, took, (done, n, did, told))
     settled (Err x) back did a l' (is, laid) = spending t l a l' w c (hands w pass.lock pass.task, m, took, (no x.why, n, did, (done, l', rw back at laid, (is, refl))))
+
+    -- what was done is a call by task that shows the pass
+    pub shown : (a : Answer) → Does mem que (c pass.lock pass.task) m a n → (l' : Lock M Q) → Does mem que (lay_back w pass.lock pass.task) n done l' → ByPlan mem que (shows w t c) t l a l'
+    shown a did l' laid = showing t l a l' w c (hands w pass.lock pass.task, m, took, (a, n, did, (done, l', laid, (refl, refl))))

@@ -1,7 +1,7 @@
 use Rattle.std.proofs.Common.{refl, rules}
-use Rattle.calls.specs.Steps.{done, hands, no, read}
+use Rattle.calls.specs.Steps.{no, read}
 use Rattle.lock.specs.Answers.{row_told}
-use Rattle.lock.proofs.ByTask.{reads_same, showing, taken_out}
+use Rattle.lock.proofs.ByTask.{reads_same, showing, shown, taken_out}
 use Rattle.lock.proofs.locks.Lock.read_with.Goals as goal
 
 pub put_back-requires : goal.put_back-requires
@@ -15,7 +15,5 @@ returns-in_err-pass g c =
 
 pub returns : goal.returns
 returns g c =
-    let k = c.in_ok-pass.pass in
-    let p = showing g.M.Memory g.Q.Queue c.args.task c.args.self.now (row_told c.read-found.result) c.put_back.new.self g.R.Bears.right (λ k u. read g.R.Bears.right k u c.args.row)
-    (hands g.R.Bears.right k.lock k.task, c.take.new.self, c.in_ok-pass.ensures.does, (row_told c.read-found.result, c.take.new.self, c.read-found.ensures.does, (done, c.put_back.new.self, c.put_back.ensures, (refl, refl)))) in
+    let p = shown g.M.Memory g.Q.Queue g.R.Bears.right c.args.task (λ k u. read g.R.Bears.right k u c.args.row) c.args.self.now c.take.new.self c.take.new.self c.in_ok-pass.pass c.in_ok-pass.ensures.does (row_told c.read-found.result) c.read-found.ensures.does c.put_back.new.self c.put_back.ensures in
     record { by_plan = p; same = reads_same g.M.Memory g.Q.Queue c.args.task c.args.self.now (row_told c.read-found.result) c.put_back.new.self g.R.Bears.right c.args.row p.follows }
