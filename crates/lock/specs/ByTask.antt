@@ -1,19 +1,18 @@
 -- The calls by task: each takes the pass that the task's right allows, uses it, and lays back what is left. Each is a plan of the
 -- nine calls.
-use Rattle.std.specs.Prelude.{◌≡◌, ℕ, List, Some, None, Ok, Err, Option, Result}
+use Rattle.std.specs.Prelude.{◌≡◌, ℕ, true, false, List, Some, None, Ok, Err, Option, Result}
 use Rattle.memory.specs.declared.interface.Memory.{Ghosts as MemoryGhosts}
 use Rattle.queue.specs.declared.interface.Queue.{Ghosts as QueueGhosts}
 use Rattle.lines.specs.declared.place.Right.{Right}
 use Rattle.lines.specs.declared.place.Right.TheVariants.{Reading, Writing}
 use Rattle.calls.specs.declared.refusal.Refusal.{Refusal}
 use Rattle.calls.specs.declared.refusal.Refusal.TheVariants.{Outside}
-use Rattle.calls.specs.Questions.{pass_refusal}
-use Rattle.calls.specs.Steps.{Answer, Call, done, downgrade, gives, hands, lay_back, leave, no, put, read, take, upgrade}
-use Rattle.calls.specs.Told.{right_told}
+use Rattle.calls.specs.Questions.{pass_refusal, task_refusal}
+use Rattle.calls.specs.Steps.{Answer, Call, done, downgrade, hands, lay_back, leave, no, put, read, take, upgrade}
 use Rattle.lock.specs.declared.locks.Lock.{Lock}
 use Rattle.lock.specs.declared.pass.Kept.{Kept}
 use Rattle.lock.specs.declared.pass.Pass.{Pass}
-use Rattle.lock.specs.Runs.{Made, Run}
+use Rattle.lock.specs.Runs.{Made, Run, was_obeyed}
 use Rattle.lock.specs.View.{Does, view}
 
 -- A plan: calls made one after another. What is called next may depend on what was answered.
@@ -26,29 +25,30 @@ pub data Plan : Type 0 where
 abbrev pub once : Call → Plan
 once c = makes c ends
 
--- a call that spends the pass: where it is refused the pass came back, and is laid back
-abbrev pub laid_where_refused : Right → ℕ → ℕ → Answer → Plan
-laid_where_refused w k t (no e) = makes (lay_back w k t) (λ _. ends (no e))
-laid_where_refused w k t done = ends done
-laid_where_refused w k t (hands v j u) = ends (hands v j u)
-laid_where_refused w k t (gives row) = ends (gives row)
-
-abbrev pub spends : Right → ℕ → ℕ → Call → Plan
-spends w k t c = makes c (laid_where_refused w k t)
-
--- a call that shows the pass, which is then laid back whatever was answered
-abbrev pub shows : Right → ℕ → ℕ → Call → Plan
-shows w k t c = makes c (λ a. makes (lay_back w k t) (λ _. ends a))
-
 -- a pass for the right w is taken for task t and used; where it is refused, that is all
 abbrev pub used : (ℕ → ℕ → Plan) → Answer → Plan
 used plan (hands w k t) = plan k t
-used plan (no e) = ends (no e)
-used plan done = ends done
-used plan (gives row) = ends (gives row)
+used plan a = ends a
 
 abbrev pub with_pass : Right → ℕ → (ℕ → ℕ → Plan) → Plan
 with_pass w t plan = makes (take w t) (used plan)
+
+-- the pass is laid back, and this is the answer of the whole
+abbrev pub laid_back : Right → ℕ → ℕ → Answer → Plan
+laid_back w k t a = makes (lay_back w k t) (λ _. ends a)
+
+-- so only where a call that spends the pass was refused, and gave it back
+abbrev pub laid_where_refused : Right → ℕ → ℕ → Answer → Plan
+laid_where_refused w k t (no e) = laid_back w k t (no e)
+laid_where_refused w k t a = ends a
+
+-- a pass is taken and spent on a call
+abbrev pub spends : Right → ℕ → (ℕ → ℕ → Call) → Plan
+spends w t c = with_pass w t (λ k u. makes (c k u) (laid_where_refused w k u))
+
+-- a pass is taken, shown to a call, and laid back whatever was answered
+abbrev pub shows : Right → ℕ → (ℕ → ℕ → Call) → Plan
+shows w t c = with_pass w t (λ k u. makes (c k u) (laid_back w k u))
 
 -- by whichever right the task has, as the question on it told; a task that is not inside has none
 abbrev pub by_right : Result (Option Right) Refusal → (Right → Plan) → Plan
@@ -57,25 +57,25 @@ by_right (Ok None) p = ends (no Outside)
 by_right (Err e) p = ends (no e)
 
 abbrev pub upgrade_plan : ℕ → Plan
-upgrade_plan t = with_pass Reading t (λ k u. spends Reading k u (upgrade k u))
+upgrade_plan t = spends Reading t upgrade
 
 abbrev pub downgrade_plan : ℕ → Plan
-downgrade_plan t = with_pass Writing t (λ k u. spends Writing k u (downgrade k u))
+downgrade_plan t = spends Writing t downgrade
 
 abbrev pub leave_by : Right → ℕ → Plan
-leave_by w t = with_pass w t (λ k u. spends w k u (leave w k u))
+leave_by w t = spends w t (leave w)
 
 abbrev pub leave_plan : Result (Option Right) Refusal → ℕ → Plan
 leave_plan told t = by_right told (λ w. leave_by w t)
 
 abbrev pub read_by : Right → ℕ → ℕ → Plan
-read_by w t row = with_pass w t (λ k u. shows w k u (read w k u row))
+read_by w t row = shows w t (λ k u. read w k u row)
 
 abbrev pub read_plan : Result (Option Right) Refusal → ℕ → ℕ → Plan
 read_plan told t row = by_right told (λ w. read_by w t row)
 
 abbrev pub put_plan : ℕ → ℕ → ℕ → Plan
-put_plan t row n = with_pass Writing t (λ k u. shows Writing k u (put k u row n))
+put_plan t row n = shows Writing t (λ k u. put k u row n)
 
 module _ {M Q : Type 0} (mem : MemoryGhosts M) (que : QueueGhosts Q) where
   -- the lock follows the plan from l to l', which answers a: each call does what its own contract says
@@ -87,12 +87,15 @@ module _ {M Q : Type 0} (mem : MemoryGhosts M) (que : QueueGhosts Q) where
   abbrev pub Runs : Lock M Q → Lock M Q → Type 0
   Runs l l' = (es : List Made) × Run mem.does mem.limit es (view mem que l) l.memory (view mem que l') l'.memory
 
-  -- the two plans that go by the task's right, from the lock as it is
-  abbrev pub Leaves : ℕ → Lock M Q → Answer → Lock M Q → Type 0
-  Leaves t l a l' = Follows (leave_plan (right_told (view mem que l) t) t) l a l'
-
-  abbrev pub ReadsRow : ℕ → ℕ → Lock M Q → Answer → Lock M Q → Type 0
-  ReadsRow t row l a l' = Follows (read_plan (right_told (view mem que l) t) t row) l a l'
+  -- what a call by task, which is the plan p of task t, leads to from l: the answer a, and l'
+  pub record ByPlan (p : Plan) (t : ℕ) (l : Lock M Q) (a : Answer) (l' : Lock M Q) : Type 0 where
+    -- each call of the plan does what its own contract says
+    pub follows : Follows p l a l'
+    -- so it is a run of the nine calls, of which the promises of the openings speak
+    pub runs : Runs l l'
+    -- obeyed, the task is there; refused, everything is as it was
+    pub there : was_obeyed a ≡ true → task_refusal (view mem que l') t ≡ None
+    pub same : was_obeyed a ≡ false → view mem que l' ≡ view mem que l
 
   -- such a pass is out here
   abbrev pub IsOut : Right → ℕ → ℕ → Lock M Q → Type 0

@@ -1,10 +1,10 @@
 // The calls that need a pass, made by task: the pass is taken and used, and what is left of it is laid back. So no pass
 // is out afterwards that was not out before.
-ghost use Rattle.std.specs.Prelude.{◌≡◌, OnErr, OnOk, IfErr, None as nothing};
-ghost use Rattle.calls.specs.Questions.{task_refusal};
+ghost use Rattle.std.specs.Prelude.{◌≡◌, IfErr};
 ghost use Rattle.calls.specs.Steps.{done, lay_back};
+ghost use Rattle.calls.specs.Told.{right_told};
 ghost use Rattle.lock.specs.Answers.{row_told, said};
-ghost use Rattle.lock.specs.ByTask.{Follows, IsOut, Leaves, ReadsRow, Runs, Settles, downgrade_plan, leave_by, leave_plan, put_plan, read_by, read_plan, upgrade_plan};
+ghost use Rattle.lock.specs.ByTask.{ByPlan, IsOut, Settles, downgrade_plan, leave_by, leave_plan, put_plan, read_by, read_plan, upgrade_plan};
 ghost use Rattle.lock.specs.View.{Does, view};
 
 use crate::locks::Lock;
@@ -44,10 +44,7 @@ impl<'a, M: Memory, Q: Queue> Lock<'a, M, Q> {
     /// Upgrades a task that has the reading right: does line 27.1. Whether the upgrade is granted, the task's right
     /// tells once it is inside again. Refused, and everything is as it was: 10, 20, 24, 25, 26, 29.
     pub fn upgrade_task(&mut self, task: u32) -> Result<(), Refusal>
-        ensures follows { Follows M.Memory Q.Queue (upgrade_plan task) self.old (said result) self.new }
-        ensures runs { Runs M.Memory Q.Queue self.old self.new }
-        ensures there { OnOk result (task_refusal (view M.Memory Q.Queue self.new) task ≡ nothing) }
-        ensures same { OnErr result (view M.Memory Q.Queue self.new ≡ view M.Memory Q.Queue self.old) }
+        ensures { ByPlan M.Memory Q.Queue (upgrade_plan task) task self.old (said result) self.new }
     {
         let pass = self.take::<Reading>(task)?;
         let made = self.upgrade(pass);
@@ -57,10 +54,7 @@ impl<'a, M: Memory, Q: Queue> Lock<'a, M, Q> {
     /// Downgrades a task that has the writing right: does line 25.1 or 28.1. Refused, and everything is as it was: 10,
     /// 20, 24, 25, 26.
     pub fn downgrade_task(&mut self, task: u32) -> Result<(), Refusal>
-        ensures follows { Follows M.Memory Q.Queue (downgrade_plan task) self.old (said result) self.new }
-        ensures runs { Runs M.Memory Q.Queue self.old self.new }
-        ensures there { OnOk result (task_refusal (view M.Memory Q.Queue self.new) task ≡ nothing) }
-        ensures same { OnErr result (view M.Memory Q.Queue self.new ≡ view M.Memory Q.Queue self.old) }
+        ensures { ByPlan M.Memory Q.Queue (downgrade_plan task) task self.old (said result) self.new }
     {
         let pass = self.take::<Writing>(task)?;
         let made = self.downgrade(pass);
@@ -69,22 +63,20 @@ impl<'a, M: Memory, Q: Queue> Lock<'a, M, Q> {
 
     // A task leaves, by a pass for this right.
     fn leave_with<R: Bears>(&mut self, task: u32) -> Result<(), Refusal>
-        ensures { Follows M.Memory Q.Queue (leave_by R.right task) self.old (said result) self.new }
+        ensures { ByPlan M.Memory Q.Queue (leave_by R.right task) task self.old (said result) self.new }
     {
         let pass = self.take::<R>(task)?;
         let made = self.leave(pass);
         self.settle(made)
     }
 
-    // A task leaves, by a pass for the right that it was told to have.
-    fn leave_by_right(
-        &mut self,
-        task: u32,
-        told: Result<Option<Right>, Refusal>,
-    ) -> Result<(), Refusal>
-        ensures { Follows M.Memory Q.Queue (leave_plan told task) self.old (said result) self.new }
+    /// A task leaves, by whichever right it has: does the first line of its leave. Refused, and everything is as it
+    /// was: 10, 20, 24, 25.
+    pub fn leave_task(&mut self, task: u32) -> Result<(), Refusal>
+        ensures { let told = right_told (view M.Memory Q.Queue self.old) task in
+            ByPlan M.Memory Q.Queue (leave_plan told task) task self.old (said result) self.new }
     {
-        match told {
+        match self.right(task) {
             Ok(Some(Right::Reading)) => self.leave_with::<Reading>(task),
             Ok(Some(Right::Writing)) => self.leave_with::<Writing>(task),
             Ok(None) => Err(Refusal::Outside),
@@ -92,21 +84,10 @@ impl<'a, M: Memory, Q: Queue> Lock<'a, M, Q> {
         }
     }
 
-    /// A task leaves, by whichever right it has: does the first line of its leave. Refused, and everything is as it
-    /// was: 10, 20, 24, 25.
-    pub fn leave_task(&mut self, task: u32) -> Result<(), Refusal>
-        ensures follows { Leaves M.Memory Q.Queue task self.old (said result) self.new }
-        ensures runs { Runs M.Memory Q.Queue self.old self.new }
-        ensures there { OnOk result (task_refusal (view M.Memory Q.Queue self.new) task ≡ nothing) }
-        ensures same { OnErr result (view M.Memory Q.Queue self.new ≡ view M.Memory Q.Queue self.old) }
-    {
-        let told = self.right(task);
-        self.leave_by_right(task, told)
-    }
-
     // A row, by a pass for this right.
     fn read_with<R: Bears>(&mut self, task: u32, row: usize) -> Result<Option<u32>, Refusal>
-        ensures { Follows M.Memory Q.Queue (read_by R.right task row) self.old (row_told result) self.new }
+        ensures by_plan { ByPlan M.Memory Q.Queue (read_by R.right task row) task self.old (row_told result) self.new }
+        ensures same { view M.Memory Q.Queue self.new ≡ view M.Memory Q.Queue self.old }
     {
         let pass = self.take::<R>(task)?;
         let found = self.read(&pass, row);
@@ -114,16 +95,14 @@ impl<'a, M: Memory, Q: Queue> Lock<'a, M, Q> {
         found
     }
 
-    // A row, by a pass for the right that the task was told to have.
-    fn read_by_right(
-        &mut self,
-        task: u32,
-        row: usize,
-        told: Result<Option<Right>, Refusal>,
-    ) -> Result<Option<u32>, Refusal>
-        ensures { Follows M.Memory Q.Queue (read_plan told task row) self.old (row_told result) self.new }
+    /// The thickness in a row, in micrometres, or nothing where nobody has measured the rib, by whichever right the
+    /// task has. Obeyed or refused, everything is as it was. Refused: 10, 20, 24, 25, 30, 32.
+    pub fn read_row(&mut self, task: u32, row: usize) -> Result<Option<u32>, Refusal>
+        ensures by_plan { let told = right_told (view M.Memory Q.Queue self.old) task in
+            ByPlan M.Memory Q.Queue (read_plan told task row) task self.old (row_told result) self.new }
+        ensures same { view M.Memory Q.Queue self.new ≡ view M.Memory Q.Queue self.old }
     {
-        match told {
+        match self.right(task) {
             Ok(Some(Right::Reading)) => self.read_with::<Reading>(task, row),
             Ok(Some(Right::Writing)) => self.read_with::<Writing>(task, row),
             Ok(None) => Err(Refusal::Outside),
@@ -131,25 +110,10 @@ impl<'a, M: Memory, Q: Queue> Lock<'a, M, Q> {
         }
     }
 
-    /// The thickness in a row, in micrometres, or nothing where nobody has measured the rib, by whichever right the
-    /// task has. Obeyed or refused, everything is as it was. Refused: 10, 20, 24, 25, 30, 32.
-    pub fn read_row(&mut self, task: u32, row: usize) -> Result<Option<u32>, Refusal>
-        ensures follows { ReadsRow M.Memory Q.Queue task row self.old (row_told result) self.new }
-        ensures runs { Runs M.Memory Q.Queue self.old self.new }
-        ensures there { OnOk result (task_refusal (view M.Memory Q.Queue self.new) task ≡ nothing) }
-        ensures same { view M.Memory Q.Queue self.new ≡ view M.Memory Q.Queue self.old }
-    {
-        let told = self.right(task);
-        self.read_by_right(task, row, told)
-    }
-
     /// Puts a thickness into a row, in micrometres, by the writing right of the task. Refused, and everything is as it
     /// was: 10, 20, 24, 25, 26, 30, 31.
     pub fn put_row(&mut self, task: u32, row: usize, thickness: u32) -> Result<(), Refusal>
-        ensures follows { Follows M.Memory Q.Queue (put_plan task row thickness) self.old (said result) self.new }
-        ensures runs { Runs M.Memory Q.Queue self.old self.new }
-        ensures there { OnOk result (task_refusal (view M.Memory Q.Queue self.new) task ≡ nothing) }
-        ensures same { OnErr result (view M.Memory Q.Queue self.new ≡ view M.Memory Q.Queue self.old) }
+        ensures { ByPlan M.Memory Q.Queue (put_plan task row thickness) task self.old (said result) self.new }
     {
         let pass = self.take::<Writing>(task)?;
         let made = self.put(&pass, row, thickness);

@@ -53,10 +53,10 @@ returns-in_ok-leave_task-in-Leave-clause-tells g c = rw c.in-Leave.is (follows g
 pub returns-in_err-read_row-in-Read-clause-tells : goal.returns-in_err-read_row-in-Read-clause-tells
 returns-in_err-read_row-in-Read-clause-tells g c =
     let is : ◌≡◌ {A = Result Done Refusal} c.from_residual-in_err-read_row-in-Read.result (Err c.in_err-read_row-in-Read.field-0.0) = search rules in
-    rw (c.in-Read.is, is) (follows g.Q.Queue g.S.Store.LIMIT g.S.Store.numbers c.in-Read.task (read_plan (right_told (view (cached (stored g.S.Store.LIMIT g.S.Store.numbers)) g.Q.Queue c.args.lock.now) c.in-Read.task) c.in-Read.task c.in-Read.row) (calls.no c.in_err-read_row-in-Read.field-0.0) c.args.lock.now c.read_row.new.self c.in_err-read_row-in-Read.ensures.follows)
+    rw (c.in-Read.is, is) (follows g.Q.Queue g.S.Store.LIMIT g.S.Store.numbers c.in-Read.task (read_plan (right_told (view (cached (stored g.S.Store.LIMIT g.S.Store.numbers)) g.Q.Queue c.args.lock.now) c.in-Read.task) c.in-Read.task c.in-Read.row) (calls.no c.in_err-read_row-in-Read.field-0.0) c.args.lock.now c.read_row.new.self c.in_err-read_row-in-Read.ensures.by_plan.follows)
 
 pub returns-in_ok-read_row-in-Read-clause-tells : goal.returns-in_ok-read_row-in-Read-clause-tells
-returns-in_ok-read_row-in-Read-clause-tells g c = rw c.in-Read.is (follows g.Q.Queue g.S.Store.LIMIT g.S.Store.numbers c.in-Read.task (read_plan (right_told (view (cached (stored g.S.Store.LIMIT g.S.Store.numbers)) g.Q.Queue c.args.lock.now) c.in-Read.task) c.in-Read.task c.in-Read.row) (calls.gives c.in_ok-read_row-in-Read.field-0) c.args.lock.now c.read_row.new.self c.in_ok-read_row-in-Read.ensures.follows)
+returns-in_ok-read_row-in-Read-clause-tells g c = rw c.in-Read.is (follows g.Q.Queue g.S.Store.LIMIT g.S.Store.numbers c.in-Read.task (read_plan (right_told (view (cached (stored g.S.Store.LIMIT g.S.Store.numbers)) g.Q.Queue c.args.lock.now) c.in-Read.task) c.in-Read.task c.in-Read.row) (calls.gives c.in_ok-read_row-in-Read.field-0) c.args.lock.now c.read_row.new.self c.in_ok-read_row-in-Read.ensures.by_plan.follows)
 
 pub returns-in_err-put_row-in-Put-clause-tells : goal.returns-in_err-put_row-in-Put-clause-tells
 returns-in_err-put_row-in-Put-clause-tells g c =

@@ -1,16 +1,15 @@
+use Rattle.std.proofs.Common.{◌≡◌, Some, Ok, sym, ◌∙◌, subst, rules}
+use Rattle.lines.specs.declared.place.Right.TheVariants.{Reading, Writing}
 use Rattle.lock.specs.Answers.{said}
-use Rattle.lock.specs.ByTask.{leave_plan}
-use Rattle.lock.proofs.ByTask.{follows_runs, leaves_refused, leaves_there}
+use Rattle.lock.specs.ByTask.{ByPlan, leave_plan}
 use Rattle.lock.proofs.locks.Lock.leave_task.Goals as goal
 
-pub returns-clause-follows : goal.returns-clause-follows
-returns-clause-follows g c = rw c.right-told.ensures at c.leave_by_right.ensures
+pub returns-in-Ok-Some-Reading : goal.returns-in-Ok-Some-Reading
+returns-in-Ok-Some-Reading g c =
+    let has : c.right.result ≡ Ok (Some Reading) = search rules in
+    subst (λ o. ByPlan g.M.Memory g.Q.Queue (leave_plan o c.args.task) c.args.task c.args.self.now (said c.leave_with.result) c.leave_with.new.self) (sym has ∙ c.right.ensures) c.leave_with.ensures
 
-pub returns-clause-runs : goal.returns-clause-runs
-returns-clause-runs g c = follows_runs g.M.Memory g.Q.Queue (leave_plan c.right-told.result c.args.task) c.args.self.now (said c.leave_by_right.result) c.leave_by_right.new.self c.leave_by_right.ensures
-
-pub returns-clause-there : goal.returns-clause-there
-returns-clause-there g c = leaves_there g.M.Memory g.Q.Queue c.args.task c.args.self.now c.leave_by_right.new.self c.right-told.result c.leave_by_right.result c.leave_by_right.ensures
-
-pub returns-clause-same : goal.returns-clause-same
-returns-clause-same g c = leaves_refused g.M.Memory g.Q.Queue c.args.task c.args.self.now c.leave_by_right.new.self c.right-told.result c.leave_by_right.result c.leave_by_right.ensures
+pub returns-in-Ok-Some-Writing : goal.returns-in-Ok-Some-Writing
+returns-in-Ok-Some-Writing g c =
+    let has : c.right.result ≡ Ok (Some Writing) = search rules in
+    subst (λ o. ByPlan g.M.Memory g.Q.Queue (leave_plan o c.args.task) c.args.task c.args.self.now (said c.leave_with-in-Ok-Some-Writing.result) c.leave_with-in-Ok-Some-Writing.new.self) (sym has ∙ c.right.ensures) c.leave_with-in-Ok-Some-Writing.ensures
