@@ -18,7 +18,8 @@ use std::io;
 use streams::sink::Sink;
 
 // Prints the listing of a schedule, its calls made at a desk over rows that nobody has measured, 16 for each lock. What the
-// output held and then the listing is written, and no more; where a write fails it is a front of that. No byte is held then.
+// output held and then the listing is written, and no more; where a write fails it is a front of that. Afterwards no
+// byte is held, whatever comes of it.
 fn list<S: Sink>(input: &[u8], out: &mut Output<S>) -> Result<(), S::Error>
     ensures writes { Writes (held out.old ++ listing input.now) (S.contents out.old.sink) (S.contents out.new.sink) result }
     ensures empty { held out.new ≡ [] }

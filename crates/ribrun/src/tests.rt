@@ -1,5 +1,5 @@
 // Reading an input from readers that give little at a time, are interrupted, or fail, or where there is too little room for
-// it, and writing a listing where there is too little room for it.
+// it, and writing a listing: a long note, and where there is too little room.
 use crate::list;
 use crate::reading::read_input;
 use listing::output::Output;
@@ -93,7 +93,7 @@ fn an_input_for_which_there_is_no_room_is_told(rt: HostRuntime) {
     assert_eq!(rt; &held[..], &TEXT[..4]);
 }
 
-// None of the others is held, for which a flush would find no room.
+// What is not written is not held either: a flush of it would find no room.
 #[test]
 fn a_write_that_fails_leaves_a_front_of_the_listing(rt: HostRuntime) {
     for room in 0..LISTING.len() {
@@ -121,8 +121,8 @@ fn a_long_note_is_listed_whole(rt: HostRuntime) -> Result<(), Fail> {
     input[5_008..].copy_from_slice(b"\nE 1\n");
     let mut held = [b'.'; 5_022];
     list(&input, &mut Output::new(&mut held[..]))?;
-    assert_eq!(rt; &held[..9], b"1 ok 1\n2 ");
+    assert_eq!(rt; &held[..9], &b"1 ok 1\n2 "[..]);
     assert_eq!(rt; &held[9..5_009], &input[8..5_008]);
-    assert_eq!(rt; &held[5_009..], b"\n3 ok 161 1\n.");
+    assert_eq!(rt; &held[5_009..], &b"\n3 ok 161 1\n."[..]);
     Ok(())
 }

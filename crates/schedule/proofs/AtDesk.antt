@@ -22,14 +22,14 @@ use Rattle.schedule.specs.declared.desk.Pair.{Pair}
 use Rattle.schedule.specs.declared.desk.Locks.{Locks}
 use Rattle.schedule.specs.Answers.{Tells, tell}
 use Rattle.schedule.specs.Desks.{Board, board, board_tells, limit_of, with_lock}
-use Rattle.schedule.specs.Lists.{HeldOrLost, ListsInto, ListsOn}
+use Rattle.schedule.specs.Lists.{ListsInto, ListsOnInto}
 use Rattle.schedule.proofs.Runs.{all_keep, lists_seen}
 
 module _ {S K E : Type 0} (contents : K → Option (List ℕ)) (does : S → Ask → Result Answer LockRefusal → S → Type 0) where
   -- lines listed through an output, as the board has them
   module _ (board : S → Board) (sees : (s : S) (a : Ask) (o : Result Answer LockRefusal) (t : S) → does s a o t → ◌≡◌ {A = Result Answer LockRefusal × Board} (o, board t) (board_tells a (board s))) where
     pub into_seen : (untold : Option LineRefusal) → untold ≡ None → (s t : S) (r q : Reader) (o p : Output K) (e : Result (Unit {0}) E) → ListsInto contents does s r o e t q p →
-        (rest : List ℕ) × ListsOn (record { untold = untold; number = r.number; left = to_come r; board = board s }) (held o) (contents o.sink) (record { untold = untold; number = q.number; left = to_come q; board = board t }) rest (contents p.sink) × HeldOrLost e rest p
+        ListsOnInto contents (record { untold = untold; number = r.number; left = to_come r; board = board s }) o e (record { untold = untold; number = q.number; left = to_come q; board = board t }) p
     into_seen untold none s t r q o p e (rest, h, kept) = (rest, lists_seen does board sees untold none s t r q (held o) rest _ _ h, kept)
 
   -- what each call keeps, they keep
@@ -64,7 +64,7 @@ module _ {B Q K E : Type 0} (contents : K → Option (List ℕ)) (m : MemoryKind
   board_with d l = with_lock m k (seen mem que l) d.chosen (board d)
 
   pub chosen_listed : (d : Locks) (pair : Pair) → d.chosen ≡ Some pair → pair.memory ≡ m → pair.queue ≡ k → (untold : Option LineRefusal) → untold ≡ None →
-      (rest : List ℕ) × ListsOn (record { untold = untold; number = r.number; left = to_come r; board = board_with d l }) (held o) (contents o.sink) (record { untold = untold; number = q.number; left = to_come q; board = board_with d l' }) rest (contents p.sink) × HeldOrLost e rest p
+      ListsOnInto contents (record { untold = untold; number = r.number; left = to_come r; board = board_with d l }) o e (record { untold = untold; number = q.number; left = to_come q; board = board_with d l' }) p
   chosen_listed d pair is memory queue untold none =
       let chosen = is ∙ (λ i. Some (record { memory = memory i; queue = queue i })) in
       into_seen contents (Tells mem que (limit_of m)) (board_with d) (λ x a o y told. chosen_sees m k (board d) d.chosen chosen a o (seen mem que x) (seen mem que y) told.0) untold none l l' r q o p e lists

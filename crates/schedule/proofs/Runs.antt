@@ -15,15 +15,15 @@ use Rattle.schedule.specs.Listing.{numbered, reply_bytes}
 use Rattle.schedule.specs.Lists.{Lists, ListsOn}
 use Rattle.schedule.specs.Meaning.{listed}
 use Rattle.schedule.specs.Progress.{Progress, after, bytes_of, untold_bytes, whole_told}
-use Rattle.schedule.specs.Replies.{AllObeyed, Heard, Obeyed, board_after, raised, replied, replies}
+use Rattle.schedule.specs.Replies.{AllObeyed, Heard, Obeyed, board_after, call_heard, replied, replies}
 use Rattle.schedule.proofs.WholeListing.{after_parts, bytes_parts}
 
--- nothing is written
-pub passed_none : (bytes : List ℕ) (a : Option (List ℕ)) → Passed (bytes ++ []) a bytes a
-passed_none bytes a = record { written = []; whole = append-nil bytes; wrote = appends_none a }
-
+-- nothing is written, and nothing came behind
 pub none_passed : (bytes : List ℕ) (a : Option (List ℕ)) → Passed bytes a bytes a
 none_passed bytes a = record { written = []; whole = refl; wrote = appends_none a }
+
+pub nothing_passed : (bytes : List ℕ) (a : Option (List ℕ)) → Passed (bytes ++ []) a bytes a
+nothing_passed bytes a = passed_from _ _ bytes a a (sym (append-nil bytes)) (none_passed bytes a)
 
 -- all is written
 pub all_passed : (bytes rest : List ℕ) (a b : Option (List ℕ)) → Appends a b bytes → rest ≡ [] → Passed bytes a rest b
@@ -31,7 +31,7 @@ all_passed bytes rest a b wrote none = record { written = bytes; whole = sym (ap
 
 module _ {S : Type 0} (does : S → Ask → Result Answer LockRefusal → S → Type 0) where
   pub lists_none : (s : S) (r : Reader) (before : List ℕ) (a : Option (List ℕ)) → Lists does s r before a s r before a
-  lists_none s r before a = record { done = []; replies = []; lines = refl; counted = sym (add-zero r.number); obeyed = (refl, refl); passed = passed_none before a }
+  lists_none s r before a = record { done = []; replies = []; lines = refl; counted = sym (add-zero r.number); obeyed = (refl, refl); passed = nothing_passed before a }
 
   -- the line n is done, of which and of the bytes before it a part is written, and then others
   pub lists_more : {s m t : S} {r q u : Reader} {before mid rest : List ℕ} {a b c : Option (List ℕ)} {l line : List ℕ} {n : ℕ} (reply : Heard) →
@@ -62,9 +62,9 @@ module _ {S : Type 0} (does : S → Ask → Result Answer LockRefusal → S → 
     line_seen (Ok (note text)) s t r (is, same) = λ i. (is i, board (same i))
     line_seen (Ok (call a)) s t r (o, does_so, is) =
         let seen = sees s a o t does_so in
-        λ i. ((is ∙ ap (λ (z : Result Answer LockRefusal × Board). raised z.0) seen) i, (seen i).1)
+        λ i. ((is ∙ ap (λ (z : Result Answer LockRefusal × Board). call_heard z.0) seen) i, (seen i).1)
 
-    pub all_seen : (ls : List (List ℕ)) (s t : S) (rs : List Heard) → AllObeyed does s ls rs t → (rs ≡ replies (board s) ls) × (board t ≡ board_after (board s) ls)
+    all_seen : (ls : List (List ℕ)) (s t : S) (rs : List Heard) → AllObeyed does s ls rs t → (rs ≡ replies (board s) ls) × (board t ≡ board_after (board s) ls)
     all_seen [] s t rs (none, same) = (none, ap board same)
     all_seen (l ∷ ls) s t rs (r, more, is, m, obeyed, others) =
         let seen = line_seen (parse l) s m r obeyed in
@@ -82,7 +82,7 @@ module _ {S : Type 0} (does : S → Ask → Result Answer LockRefusal → S → 
           done = h.done;
           left = to_come q;
           lines = h.lines;
-          progress = λ i. record { untold = none i; number = h.counted i; left = to_come q; board = seen.1 i };
+          reached = λ i. record { untold = none i; number = h.counted i; left = to_come q; board = seen.1 i };
           passed = subst (λ u. Passed (before ++ (untold_bytes u ++ listed r.number (board s) h.done)) a rest c) (sym none) lines;
         }
 
@@ -101,15 +101,15 @@ module _ {S : Type 0} (does : S → Ask → Result Answer LockRefusal → S → 
 -- two parts of a run, the second behind what the first left
 pub on_more : (p q u : Progress) (before mid kept rest : List ℕ) (a b c : Option (List ℕ)) → ListsOn p before a q mid b → kept ≡ mid → ListsOn q kept b u rest c → ListsOn p before a u rest c
 on_more p q u before mid kept rest a b c h is k =
-    let left : h.left ≡ k.done ++ k.left = ap (λ (x : Progress). x.left) (sym h.progress) ∙ k.lines in
+    let left : h.left ≡ k.done ++ k.left = ap (λ (x : Progress). x.left) (sym h.reached) ∙ k.lines in
     let first = bytes_of h.done p in
-    let later : bytes_of k.done q ≡ listed (p.number + length h.done) (board_after p.board h.done) k.done = ap (bytes_of k.done) h.progress in
+    let later : bytes_of k.done q ≡ listed (p.number + length h.done) (board_after p.board h.done) k.done = ap (bytes_of k.done) h.reached in
     record {
       done = h.done ++ k.done;
       left = k.left;
       lines = h.lines ∙ ap (λ z. h.done ++ z) left ∙ sym (append_assoc h.done k.done k.left);
-      progress =
-          k.progress ∙ ap (λ x. after k.done k.left (whole_told x)) h.progress
+      reached =
+          k.reached ∙ ap (λ x. after k.done k.left (whole_told x)) h.reached
           ∙ (λ i. record { untold = None; number = counted p.number h.done k.done i; left = k.left; board = sym (after_parts p.board h.done k.done) i });
       passed =
           passed_from _ _ rest a c (append_assoc before first (bytes_of k.done q) ∙ ap (λ z. before ++ (first ++ z)) later ∙ ap (λ z. before ++ z) (bytes_parts p h.done k.done))

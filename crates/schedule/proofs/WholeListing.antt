@@ -44,7 +44,7 @@ cut_lines (x ∷ cut) more =
 
 -- lines done in two parts
 
-pub listed_parts : (n : ℕ) (b : Board) (ls ms : List (List ℕ)) → listed n b (ls ++ ms) ≡ listed n b ls ++ listed (n + length ls) (board_after b ls) ms
+listed_parts : (n : ℕ) (b : Board) (ls ms : List (List ℕ)) → listed n b (ls ++ ms) ≡ listed n b ls ++ listed (n + length ls) (board_after b ls) ms
 listed_parts n b [] ms = ap (λ k. listed k b ms) (sym (add-zero n))
 listed_parts n b (l ∷ ls) ms =
     let own = reply_bytes (n + 1) (replied (parse l) b).0 in

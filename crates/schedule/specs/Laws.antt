@@ -15,7 +15,7 @@ Numbered = (input : List ℕ) → length input ≤ 65536 → listing input ≡ n
 abbrev pub Prefix : Type 0
 Prefix = (cut more : List ℕ) → length (cut ++ 10 ∷ more) ≤ 65536 → (rest : List ℕ) × (listing (cut ++ 10 ∷ more) ≡ listing (cut ++ 10 ∷ []) ++ rest)
 
--- a line that is blank or a note
+-- a line that comes to r at every board, and leaves the board as it was
 abbrev pub IsQuiet : List ℕ → Heard → Type 0
 IsQuiet l r = (b : Board) → replied (parse l) b ≡ (r, b)
 

@@ -28,7 +28,7 @@ pub record ListsOn (p : Progress) (before : List ℕ) (a : Option (List ℕ)) (q
   pub done : List (List ℕ)
   pub left : List (List ℕ)
   pub lines : p.left ≡ done ++ left
-  pub progress : q ≡ after done left (whole_told p)
+  pub reached : q ≡ after done left (whole_told p)
   pub passed : Passed (before ++ bytes_of done p) a rest c
 
 -- the output holds `rest`; where a write failed that is lost, and none is held
@@ -40,14 +40,17 @@ module _ {K E : Type 0} (contents : K → Option (List ℕ)) where
   abbrev pub ListsInto : {S : Type 0} → (S → Ask → Result Answer LockRefusal → S → Type 0) → S → Reader → Output K → Result (Unit {0}) E → S → Reader → Output K → Type 0
   ListsInto does s r o e t q p = (rest : List ℕ) × Lists does s r (held o) (contents o.sink) t q rest (contents p.sink) × HeldOrLost e rest p
 
-  abbrev pub ListsOnInto : Schedule → Output K → Result (Unit {0}) E → Schedule → Output K → Type 0
-  ListsOnInto s o e t p = (rest : List ℕ) × ListsOn (progress s) (held o) (contents o.sink) (progress t) rest (contents p.sink) × HeldOrLost e rest p
+  abbrev pub ListsOnInto : Progress → Output K → Result (Unit {0}) E → Progress → Output K → Type 0
+  ListsOnInto p o e q k = (rest : List ℕ) × ListsOn p (held o) (contents o.sink) q rest (contents k.sink) × HeldOrLost e rest k
 
   -- All that is left of the listing is written behind what was held, and all lines are done; where a write fails, a front of that. Then
   -- some of the lines are done, and no byte of any other is written. No byte is held, whatever comes of it.
   pub record Prints (s : Schedule) (o : Output K) (e : Result (Unit {0}) E) (t : Schedule) (p : Output K) : Type 0 where
     pub writes : Writes (held o ++ bytes_of (to_come s.reader) (progress s)) (contents o.sink) (contents p.sink) e
-    pub progress : MatchResult e (λ _. progress t ≡ after (to_come s.reader) [] (whole_told (progress s))) (λ _. ListsOnInto s o e t p)
+    pub reached :
+        MatchResult e
+        (λ _. progress t ≡ after (to_come s.reader) [] (whole_told (progress s)))
+        (λ _. (rest : List ℕ) × ListsOn (progress s) (held o) (contents o.sink) (progress t) rest (contents p.sink))
     pub empty : held p ≡ []
 
 -- no line is left for whoever answers now

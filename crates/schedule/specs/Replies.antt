@@ -19,7 +19,7 @@ pub data Heard : Type 0 where
   noting : List ℕ → Heard
   answering : Answer → Heard
 
--- as the code has it, with the text of a note as a part of the schedule, and with the refusal
+-- as the code has it: the text of a note is a part of the schedule, and a refusal an error
 abbrev pub heard : Reply → Heard
 heard reply.Nothing = nothing
 heard (reply.Note text) = noting text.now
@@ -36,16 +36,16 @@ IsWithin n (noting text) = length text ≤ n
 IsWithin n (answering a) = Unit {0}
 
 -- what a lock tells of a call
-abbrev pub raised : Result Answer LockRefusal → Heard
-raised (Ok a) = answering a
-raised (Err e) = answering (Refused (lock_number e))
+abbrev pub call_heard : Result Answer LockRefusal → Heard
+call_heard (Ok a) = answering a
+call_heard (Err e) = answering (Refused (lock_number e))
 
 -- a line, as it reads, obeyed at the board: what it comes to, and the board then
 abbrev pub replied : Result Said LineRefusal → Board → Heard × Board
 replied (Err e) b = (answering (Refused (line_number e)), b)
 replied (Ok blank) b = (nothing, b)
 replied (Ok (note text)) b = (noting text, b)
-replied (Ok (call a)) b = let r = board_tells a b in (raised r.0, r.1)
+replied (Ok (call a)) b = let r = board_tells a b in (call_heard r.0, r.1)
 
 -- what each line comes to, one after another, and the board after them
 abbrev pub replies : Board → List (List ℕ) → List Heard
@@ -63,7 +63,7 @@ module _ {S : Type 0} (does : S → Ask → Result Answer LockRefusal → S → 
   Obeyed s (Err e) h t = (h ≡ answering (Refused (line_number e))) × (t ≡ s)
   Obeyed s (Ok blank) h t = (h ≡ nothing) × (t ≡ s)
   Obeyed s (Ok (note text)) h t = (h ≡ noting text) × (t ≡ s)
-  Obeyed s (Ok (call a)) h t = (o : Result Answer LockRefusal) × does s a o t × (h ≡ raised o)
+  Obeyed s (Ok (call a)) h t = (o : Result Answer LockRefusal) × does s a o t × (h ≡ call_heard o)
 
   -- the lines lead from s to t and come to these
   abbrev pub AllObeyed : S → List (List ℕ) → List Heard → S → Type 0

@@ -1,8 +1,9 @@
 // The listing of a schedule, appended to an output.
-ghost use Rattle.std.specs.Prelude.{◌≡◌, ◌≤◌, ◌⊎◌, [], true, None, length, OnOk};
+ghost use Rattle.std.specs.Prelude.{◌≡◌, ◌≤◌, ◌⊎◌, [], true, None, length, OnErr, OnOk};
+ghost use Rattle.listing.specs.Outputs.{Appended, held};
 ghost use Rattle.script.specs.Reading.{to_come};
 ghost use Rattle.schedule.specs.Lists.{IsOver, ListsInto, ListsOnInto, Prints};
-ghost use Rattle.schedule.specs.Progress.{SameDesk};
+ghost use Rattle.schedule.specs.Progress.{SameDesk, progress, untold_bytes, whole_told};
 
 use crate::replies::{Reply, obey_line};
 use crate::schedule::Schedule;
@@ -52,8 +53,9 @@ fn list_lines<V: Serve, S: Sink>(
 impl Schedule<'_, '_, '_> {
     // Tells why the whole input is refused, where that is to be told.
     fn tell_whole<S: Sink>(&mut self, out: &mut Output<S>) -> Result<(), S::Error>
-        ensures lists { ListsOnInto S.contents self.old out.old result self.new out.new }
-        ensures told { self.new.untold ≡ None }
+        ensures appended { Appended S.contents (untold_bytes self.old.untold) out.old result out.new }
+        ensures lost { OnErr result (held out.new ≡ []) }
+        ensures reached { progress self.new ≡ whole_told (progress self.old) }
         ensures same { SameDesk self.old self.new }
     {
         let Some(why) = self.untold.take() else {
@@ -65,9 +67,8 @@ impl Schedule<'_, '_, '_> {
     // Does lines until none is left or a lock is chosen.
     fn list_unchosen<S: Sink>(&mut self, out: &mut Output<S>) -> Result<(), S::Error>
         requires { self.old.untold ≡ None }
-        ensures lists { ListsOnInto S.contents self.old out.old result self.new out.new }
+        ensures lists { ListsOnInto S.contents (progress self.old) out.old result (progress self.new) out.new }
         ensures over { OnOk result (IsOver self.new) }
-        ensures told { self.new.untold ≡ None }
         ensures same { SameDesk self.old self.new }
     {
         list_lines(&mut self.reader, &mut self.desk.locks, out)
@@ -77,7 +78,7 @@ impl Schedule<'_, '_, '_> {
     fn list_chosen<S: Sink>(&mut self, out: &mut Output<S>) -> Result<(), S::Error>
         requires told { self.old.untold ≡ None }
         requires over { IsOver self.old }
-        ensures lists { ListsOnInto S.contents self.old out.old result self.new out.new }
+        ensures lists { ListsOnInto S.contents (progress self.old) out.old result (progress self.new) out.new }
         ensures over { OnOk result (to_come self.new.reader ≡ []) }
         ensures same { SameDesk self.old self.new }
     {
@@ -88,15 +89,27 @@ impl Schedule<'_, '_, '_> {
         };
         match (pair.memory, pair.queue) {
             (MemoryKind::Words, QueueKind::Ring) => list_lines(reader, &mut locks.words_ring, out),
-            (MemoryKind::Words, QueueKind::Masks) => list_lines(reader, &mut locks.words_masks, out),
-            (MemoryKind::Packed, QueueKind::Ring) => list_lines(reader, &mut locks.packed_ring, out),
-            (MemoryKind::Packed, QueueKind::Masks) => list_lines(reader, &mut locks.packed_masks, out),
+            (MemoryKind::Words, QueueKind::Masks) => list_lines(
+                reader,
+                &mut locks.words_masks,
+                out,
+            ),
+            (MemoryKind::Packed, QueueKind::Ring) => list_lines(
+                reader,
+                &mut locks.packed_ring,
+                out,
+            ),
+            (MemoryKind::Packed, QueueKind::Masks) => list_lines(
+                reader,
+                &mut locks.packed_masks,
+                out,
+            ),
         }
     }
 
     /// Does all lines that are left, and writes what the output holds and then all that is left of the listing; where a write
-    /// fails a front of these bytes is written, no byte of a line that is not done, and the error is the sink's. The output
-    /// then holds nothing, whatever comes of it.
+    /// fails a front of these bytes is written, no byte of a line that is not done, and the error is the sink's. Afterwards
+    /// the output holds nothing, whatever comes of it.
     pub fn print<S: Sink>(&mut self, out: &mut Output<S>) -> Result<(), S::Error>
         ensures prints { Prints S.contents self.old out.old result self.new out.new }
         ensures same { SameDesk self.old self.new }

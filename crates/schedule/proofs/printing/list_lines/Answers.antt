@@ -12,7 +12,7 @@ use Rattle.streams.specs.Streams.{Cut, Passed}
 use Rattle.schedule.specs.Lists.{Lists}
 use Rattle.schedule.specs.Listing.{reply_bytes}
 use Rattle.schedule.specs.Replies.{heard}
-use Rattle.schedule.proofs.Runs.{all_passed, lists_more, lists_none, none_passed, passed_none}
+use Rattle.schedule.proofs.Runs.{all_passed, lists_more, lists_none, none_passed, nothing_passed}
 use Rattle.schedule.proofs.printing.list_lines.Goals.{else-is_full, then-is_full+in_ok-flush}
 use Rattle.schedule.proofs.printing.list_lines.Goals as goal
 
@@ -56,7 +56,7 @@ loop-reader-preserved-in-Nothing g c =
     let so = ap (λ z. reply_bytes c.number-number.result (heard z)) c.in-Nothing.is in (
       c.in-Some.ensures.same_input ∙ c.loop-reader.invariant.0,
       λ t q rest x h. c.loop-reader.invariant.1 t q rest x
-          (lists_more g.V.Serve.serves (heard c.obey_line.result) c.in-Some.ensures.first c.in-Some.ensures.counted c.number-number.ensures.value c.obey_line.ensures.obeys so (passed_none (held c.loop-reader.out) _) h),
+          (lists_more g.V.Serve.serves (heard c.obey_line.result) c.in-Some.ensures.first c.in-Some.ensures.counted c.number-number.ensures.value c.obey_line.ensures.obeys so (nothing_passed (held c.loop-reader.out) _) h),
     )
 
 pub returns-in_err-put_note-in-Note-clause-lists : goal.returns-in_err-put_note-in-Note-clause-lists

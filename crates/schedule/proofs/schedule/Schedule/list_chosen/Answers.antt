@@ -8,7 +8,7 @@ use Rattle.schedule.proofs.Printed.{nothing_listed}
 use Rattle.schedule.proofs.schedule.Schedule.list_chosen.Goals as goal
 
 pub returns-in_default-clause-lists : goal.returns-in_default-clause-lists
-returns-in_default-clause-lists g c = nothing_listed g.S.Sink.contents (progress c.args.self.now) c.args.self.now.untold c.requires.told c.requires.told c.args.out.now
+returns-in_default-clause-lists g c = nothing_listed g.S.Sink.contents g.row.S-Error.Denot (progress c.args.self.now) c.args.out.now c.requires.told
 
 pub returns-in-Words-Ring-clause-lists : goal.returns-in-Words-Ring-clause-lists
 returns-in-Words-Ring-clause-lists g c =
