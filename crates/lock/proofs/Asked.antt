@@ -1,4 +1,5 @@
--- The questions of each call in their order, and what it comes to where none is answered no: one walk over `judge` for all that is shown of it.
+-- The questions of each call in their order, and what it comes to where none is answered no: one walk over `judge`, for what the
+-- promises say of a call.
 use Rattle.std.proofs.Common.{◌≡◌, ℕ, ◌≤◌, Bool, true, false, eqb, leb, ltb, List, [], ◌∷◌, length, get_or, Some, None, Option, sym, refl, ap, ◌∙◌, subst, lit≤}
 use Rattle.std.specs.List.{AllByRecursion as All}
 use Rattle.lines.specs.declared.place.Place.{Place}

@@ -117,39 +117,129 @@ judged_says (begin t) s g (there, (free, _)) =
     let r = record_of s t in
     let k = task_there s t there in
     let n : r.account.finished + 1 ≡ r.account.finished + unfinished r.track.place + 1 = omega (arith, rests_before r.track.place r.account.finished free) in
-    record { is = refl; line = refl; leaves = λ row a v. refl; away = tt; says = ap (λ n. says_of r.out n 0 0) n; ends = λ f share. begins r.track.place r.track.role (begun r).track f r.account.finished r.account (charged (begun r).account share) free refl refl; costs = λ share. ap (λ n. min n 4294967295) (omega arith); needs = (k.0, k.1, may_begin r.track.place r.account.finished free); answers = refl }
+    record {
+      is = refl;
+      line = refl;
+      leaves = λ row a v. refl;
+      away = tt;
+      says = ap (λ n. says_of r.out n 0 0) n;
+      ends = λ f share. begins r.track.place r.track.role (begun r).track f r.account.finished r.account (charged (begun r).account share) free refl refl;
+      costs = λ share. ap (λ n. min n 4294967295) (omega arith);
+      needs = (k.0, k.1, may_begin r.track.place r.account.finished free);
+      answers = refl;
+    }
 judged_says (advance t) s g (there, (on, _)) =
     let r = record_of s t in
     let k = task_there s t there in
-    record { is = refl; line = refl; leaves = λ row a v. refl; away = on_line_away r.track.place on; says = refl; ends = ends_away r r (on_line_away r.track.place on) refl refl; costs = λ share. refl; needs = (k.0, k.1, may_advance r.track.place on); answers = refl }
+    record {
+      is = refl;
+      line = refl;
+      leaves = λ row a v. refl;
+      away = on_line_away r.track.place on;
+      says = refl;
+      ends = ends_away r r (on_line_away r.track.place on) refl refl;
+      costs = λ share. refl;
+      needs = (k.0, k.1, may_advance r.track.place on);
+      answers = refl;
+    }
 judged_says (take w t) s g (there, (may, _)) =
     let r = record_of s t in
     let k = task_there s t there in
-    record { number = refl; rows = refl; row = λ row. refl; no_line = refl; says = λ u low. replaced (take w t) s u t (with_out r (Some w)) low k.0 k.1 refl refl; still = λ cost share. refl; needs = (k.0, k.1, takes (right_of r.track) r.out w may); answers = λ o. refl; refused = λ o. absurd (false≢true (sym o)) }
+    record {
+      number = refl;
+      rows = refl;
+      row = λ row. refl;
+      no_line = refl;
+      says = λ u low. replaced (take w t) s u t (with_out r (Some w)) low k.0 k.1 refl refl;
+      still = λ cost share. refl;
+      needs = (k.0, k.1, takes (right_of r.track) r.out w may);
+      answers = λ o. refl;
+      refused = λ o. absurd (false≢true (sym o));
+    }
 judged_says (lay_back w k t) s g (out, _) =
     let p = pass_there s w k t g out in
-    record { number = refl; rows = refl; row = λ row. refl; no_line = refl; says = λ u low. replaced (lay_back w k t) s u t (with_out (record_of s t) None) low p.low p.high refl refl; still = λ cost share. refl; needs = (p.low, p.high, shown s w k t out); answers = λ o. refl; refused = λ o. absurd (false≢true (sym o)) }
+    record {
+      number = refl;
+      rows = refl;
+      row = λ row. refl;
+      no_line = refl;
+      says = λ u low. replaced (lay_back w k t) s u t (with_out (record_of s t) None) low p.low p.high refl refl;
+      still = λ cost share. refl;
+      needs = (p.low, p.high, shown s w k t out);
+      answers = λ o. refl;
+      refused = λ o. absurd (false≢true (sym o));
+    }
 judged_says (upgrade k t) s g (out, (few, _)) =
     let r = record_of s t in
     let p = pass_there s Reading k t g out in
     let away = held_away s Reading t p in
-    record { is = refl; line = refl; leaves = λ row a v. refl; away = tt; says = ap (λ n. says_of None (r.account.finished + n) (r.account.u + 1) r.account.g) (sym (away_unfinished r.track.place away)); ends = ends_away r (upgrading r) away refl refl; costs = λ share. refl; needs = (p.low, p.high, (shown s Reading k t out, ltb-true r.account.u 1000 (yes (ltb r.account.u 1000) Upgrades None few).0)); answers = refl }
+    record {
+      is = refl;
+      line = refl;
+      leaves = λ row a v. refl;
+      away = tt;
+      says = ap (λ n. says_of None (r.account.finished + n) (r.account.u + 1) r.account.g) (sym (away_unfinished r.track.place away));
+      ends = ends_away r (upgrading r) away refl refl;
+      costs = λ share. refl;
+      needs = (p.low, p.high, (shown s Reading k t out, ltb-true r.account.u 1000 (yes (ltb r.account.u 1000) Upgrades None few).0));
+      answers = refl;
+    }
 judged_says (downgrade k t) s g (out, _) =
     let r = record_of s t in
     let p = pass_there s Writing k t g out in
     let away = held_away s Writing t p in
-    record { is = refl; line = refl; leaves = λ row a v. refl; away = tt; says = ap (λ n. says_of None (r.account.finished + n) r.account.u (r.account.g + 1)) (sym (away_unfinished r.track.place away)); ends = ends_away r (downgrading r) away refl refl; costs = λ share. refl; needs = (p.low, p.high, shown s Writing k t out); answers = refl }
+    record {
+      is = refl;
+      line = refl;
+      leaves = λ row a v. refl;
+      away = tt;
+      says = ap (λ n. says_of None (r.account.finished + n) r.account.u (r.account.g + 1)) (sym (away_unfinished r.track.place away));
+      ends = ends_away r (downgrading r) away refl refl;
+      costs = λ share. refl;
+      needs = (p.low, p.high, shown s Writing k t out);
+      answers = refl;
+    }
 judged_says (leave w k t) s g (out, _) =
     let r = record_of s t in
     let p = pass_there s w k t g out in
     let away = held_away s w t p in
-    record { is = refl; line = refl; leaves = λ row a v. refl; away = tt; says = ap (λ n. says_of None (r.account.finished + n) r.account.u r.account.g) (sym (away_unfinished r.track.place away)); ends = ends_away r (leaving r) away refl refl; costs = λ share. refl; needs = (p.low, p.high, shown s w k t out); answers = refl }
+    record {
+      is = refl;
+      line = refl;
+      leaves = λ row a v. refl;
+      away = tt;
+      says = ap (λ n. says_of None (r.account.finished + n) r.account.u r.account.g) (sym (away_unfinished r.track.place away));
+      ends = ends_away r (leaving r) away refl refl;
+      costs = λ share. refl;
+      needs = (p.low, p.high, shown s w k t out);
+      answers = refl;
+    }
 judged_says (read w k t row) s g (out, (is, _)) =
     let p = pass_there s w k t g out in
-    record { number = refl; rows = refl; row = λ row. refl; no_line = refl; says = λ u low. cond_same _ _; still = λ cost share. refl; needs = (p.low, p.high, (shown s w k t out, in_rows row (length s.table) is)); answers = told_row (get_or s.table row 0); refused = λ o. refl }
+    record {
+      number = refl;
+      rows = refl;
+      row = λ row. refl;
+      no_line = refl;
+      says = λ u low. cond_same _ _;
+      still = λ cost share. refl;
+      needs = (p.low, p.high, (shown s w k t out, in_rows row (length s.table) is));
+      answers = told_row (get_or s.table row 0);
+      refused = λ o. refl;
+    }
 judged_says (put k t row n) s g (out, (is, (fits, _))) =
     let p = pass_there s Writing k t g out in
-    record { number = refl; rows = length-set s.table row n; row = λ i. row_put s k t row n i (in_rows row (length s.table) is); no_line = refl; says = λ u low. cond_same _ _; still = λ cost share. refl; needs = (p.low, p.high, (shown s Writing k t out, in_rows row (length s.table) is, (is_thickness n fits).0, (is_thickness n fits).1)); answers = λ o. refl; refused = λ o. absurd (false≢true (sym o)) }
+    record {
+      number = refl;
+      rows = length-set s.table row n;
+      row = λ i. row_put s k t row n i (in_rows row (length s.table) is);
+      no_line = refl;
+      says = λ u low. cond_same _ _;
+      still = λ cost share. refl;
+      needs = (p.low, p.high, (shown s Writing k t out, in_rows row (length s.table) is, (is_thickness n fits).0, (is_thickness n fits).1));
+      answers = λ o. refl;
+      refused = λ o. absurd (false≢true (sym o));
+    }
 
 pub call_says : (c : Call) (s : State) → Lawful s → Says c s (judge c s)
 call_says c s g = judged (Says c s) c s (λ e own. tt) (judged_says c s g)
@@ -235,7 +325,13 @@ module _ {M : Type 0} (does : Doing M) (limit : ℕ) where
   ran P (e ∷ es) s z m n g (p, (y, k, call, run)) =
       let rest = ran P es y z k n (call_able does limit e.call s y m k e.answer g call) run in
       let first = call_left e.call s y m k e.answer g call in
-      record { number = rest.number ∙ first.number; tasks = rest.tasks ∙ (call_same does limit s y m k e.call e.answer call).count; rows = rest.rows ∙ first.rows; row = λ i. rest.row i ∙ ap (last_put i es) (first.row i); says = λ t low. rest.says t low ∙ ap (history_from t es) (first.says t low) }
+      record {
+        number = rest.number ∙ first.number;
+        tasks = rest.tasks ∙ (call_same does limit s y m k e.call e.answer call).count;
+        rows = rest.rows ∙ first.rows;
+        row = λ i. rest.row i ∙ ap (last_put i es) (first.row i);
+        says = λ t low. rest.says t low ∙ ap (history_from t es) (first.says t low);
+      }
 
   -- A run from a state whose records have no history yet.
   module _ (s : State) (first : (t : ℕ) → told (record_of s t) ≡ nothing_yet) (able : Able limit s) (P : State → Type 0) (es : List Made) (z : State) (m n : M) (run : RunWhile does limit P es s m z n) where

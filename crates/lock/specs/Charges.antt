@@ -6,7 +6,7 @@ use Rattle.lines.specs.declared.deed.Deed.TheVariants.{Touch}
 use Rattle.lines.specs.declared.place.Place.{Place}
 use Rattle.lines.specs.declared.place.Place.TheVariants.{Rest}
 use Rattle.calls.specs.declared.record.Record.{Record}
-use Rattle.calls.specs.Steps.{Call, begin, lay_back, put, read, take}
+use Rattle.calls.specs.Steps.{Call, advance, begin, downgrade, leave, upgrade}
 use Rattle.lock.specs.History.{History}
 use Rattle.lock.specs.Runs.{Made, task_of, was_obeyed}
 
@@ -19,11 +19,11 @@ TellsShare does n t d share p = (share ≡ 0) × (p ≡ n)
 -- cost passes the largest 32-bit number.
 abbrev pub cost_after : ℕ → ℕ → Call → ℕ
 cost_after cost share (begin t) = min share 4294967295
-cost_after cost share (take w t) = cost
-cost_after cost share (lay_back w k t) = cost
-cost_after cost share (read w k t row) = cost
-cost_after cost share (put k t row n) = cost
-cost_after cost share c = min (cost + share) 4294967295
+cost_after cost share (advance t) = min (cost + share) 4294967295
+cost_after cost share (upgrade k t) = min (cost + share) 4294967295
+cost_after cost share (downgrade k t) = min (cost + share) 4294967295
+cost_after cost share (leave w k t) = min (cost + share) 4294967295
+cost_after cost share c = cost
 
 -- what a call makes of the cost of task t: nothing, where it is refused or another task's
 abbrev pub cost_made : ℕ → ℕ → ℕ → Made → ℕ

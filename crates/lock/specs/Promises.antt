@@ -171,8 +171,8 @@ module _ {M : Type 0} (does : Doing M) (limit : ℕ) (s : State) (m : M) where
   abbrev pub CostBound : ℕ → Type 0
   CostBound top = Always (λ es z n. (t : ℕ) → 1 ≤ t → (record_of z t).account.cost ≤ top * (20 + 5 * (history t es).upgrades + 2 * (history t es).downgrades))
 
-  -- Exact costs, over the cache layer on a memory whose operations cost 1: answers, state and copies are to the unit what the calls
-  -- alone come to.
+  -- Exact costs, over the cache layer on a memory whose operations cost 1: answers, state and copies are to the unit what the calls come
+  -- to over a memory with this limit, which refuses none of them, as own refusals say.
   abbrev pub ExactCosts : (M → List ℕ) → Type 0
   ExactCosts masks =
       Always (λ es z n. ◌≡◌ {A = List Made × Counted} (es, record { state = z; masks = masks n }) (exact_run limit (map (λ e. e.call) es) (record { state = s; masks = masks m })))
